@@ -1,0 +1,9 @@
+pub mod IntegerLaws
+pub mod IntervalLaws
+pub mod LatticeLaws
+pub mod ArithmeticLaws
+pub mod CompareLaws
+pub mod NarrowLaws
+pub mod Laws
+pub mod Machine
+pub mod MachineArithmetic
