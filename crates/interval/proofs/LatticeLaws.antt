@@ -97,6 +97,15 @@ meet-within-left r s = holds-within (meetOf r s) r (λ z p. meet-only r s z p .0
 pub meet-within-right : (r s : Interval) → meetOf r s ⊑ s
 meet-within-right r s = holds-within (meetOf r s) s (λ z p. meet-only r s z p .1)
 
+-- and its ends are in their order
+abbrev pub Ordered : Interval → Type 0
+Ordered None = Unit {0}
+Ordered (Between a b) = a ≤ℤ b
+
+pub meet-ordered : (r s : Interval) → Ordered (meetOf r s)
+unfolding meetOf
+meet-ordered r s = onBoth-cases Ordered None _ r s tt (λ a b c d _ _ _ _. leZ-cases Ordered (maxZ a c) (minZ b d) (Between (maxZ a c) (minZ b d)) None (λ h. h) (λ _. tt))
+
 pub meet-mono : (r r′ s s′ : Interval) → r ⊑ r′ → s ⊑ s′ → meetOf r s ⊑ meetOf r′ s′
 meet-mono r r′ s s′ h k = holds-within (meetOf r s) (meetOf r′ s′) (λ z p.
     let w = meet-only r s z p in

@@ -1,0 +1,38 @@
+-- `table::validate::first_share` meets its contract: each share below u is at least 1, and the loop is left at the first that is not, or past the last. Assumes nothing.
+use Prim.Native.Nat.{_-_}
+use borrow.Author.Needs.{needs}
+use Rattle.words.proofs.Bools.{fails-not, holds-not}
+use Rattle.words.proofs.FirstLaws.{Searched, start, next, stop, done}
+use Rattle.table.specs.Validate.{shareOkOf}
+use Rattle.table.proofs.validate.first_share.Statement.{statement}
+use Rattle.table.proofs.validate.first_share.Tie as tie
+
+abbrev Inv-loop : tie.InvT-loop
+Inv-loop shares tasks u₀ u = Searched (shareOkOf shares) tasks u
+
+abbrev μ-loop : tie.MeasureT-loop
+μ-loop shares tasks u₀ u = tasks - u
+
+returns : tie.Need-returns Inv-loop μ-loop
+returns c =
+    stop (c .before .before .before .loop .inv) (c .before .before .loop-test .taken)
+    (fails-not (c .before .share-ok .ensures) (c .if1 .taken))
+
+loop-again : tie.Need-loop-again Inv-loop μ-loop
+loop-again c =
+    next (c .before .before .before .loop .inv) (c .before .before .loop-test .taken)
+    (holds-not (c .before .share-ok .ensures) (c .if1 .left))
+
+pub first-share-spec : {M : Type 1} → statement M
+first-share-spec =
+    tie.close
+    (tie.spec
+    Inv-loop
+    μ-loop
+    (λ c. start)
+    (λ c κs. search needs)
+    returns
+    (λ c. search needs)
+    (λ c. search needs)
+    loop-again
+    (λ c. done (c .before .loop .inv) (c .loop-test .left)))

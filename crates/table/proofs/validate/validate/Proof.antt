@@ -1,0 +1,75 @@
+-- `table::validate::validate` meets its contract: each `return` is the rules that passed, and the one that refused. Assumes nothing.
+use Prim.Native.Nat.{_≤_}
+use mathlib.Core.Path.{_≡_, refl, sym, _∙_}
+use mathlib.Core.Bool.{true}
+use mathlib.Core.List.{List}
+use borrow.Author.Needs.{needs}
+use borrow.Author.Tests.{leb-true, le-leb, lt-leb, eq-eqb, ne-eqb}
+use denote.Ref.{now}
+use lib.Dec.{lit<, leb}
+use lib.IntN.{ℤ}
+use lib.ListN.{length}
+use Rattle.words.specs.declared.Found.the-variants.{Nothing}
+use Rattle.words.specs.First.{firstBad}
+use Rattle.words.proofs.Bools.{and-right}
+use Rattle.words.proofs.FirstLaws.{firstBad-none}
+use Rattle.words.proofs.StageLaws.{pass, halt, pass-if, halt-if}
+use Rattle.table.specs.Layout.{sizesOf}
+use Rattle.table.specs.Validate.{sizeOkOf, sizesStage}
+use Rattle.table.proofs.validate.validate.Statement.{statement}
+use Rattle.table.proofs.validate.validate.Tie as tie
+
+-- the table
+abbrev table : tie.Start → List ℤ
+table c = now (c .args .t)
+
+-- what the rules that were passed say
+long : (c : tie.Else1) → leb 5 (length (table (c .before))) ≡ true
+long c = le-leb _ _ (c .if1 .left)
+
+sized : (c : tie.After-enum-told) → firstBad (sizeOkOf (table (c .before .before .before .before))) 5 ≡ Nothing
+sized c = sym (c .before .before .first-size .ensures) ∙ c .enum-told .given .1
+
+few-nodes : (c : tie.After-enum-told) → sizesOf (table (c .before .before .before .before)) .nodes ≤ 1024
+few-nodes c =
+    let t = table (c .before .before .before .before) in
+    leb-true _ _ (and-right (leb 0 (sizesOf t .nodes)) _ (firstBad-none (sizeOkOf t) 5 (sized c) 4 (lit< tt)))
+
+short : tie.Need-returns
+unfolding sizesStage
+short c = halt-if _ (lt-leb _ _ (c .if1 .taken)) refl
+
+size-broken : tie.Need-returns-2
+unfolding sizesStage
+size-broken c =
+    let sizes = c .before .before .before in
+    pass-if _ _ (long (sizes .before)) (halt _ (sym (sizes .first-size .ensures) ∙ c .before .k .given .1))
+
+length-broken : tie.Need-returns-3
+unfolding sizesStage
+length-broken c =
+    let sizes = c .before .before in
+    pass-if _ _ (long (sizes .before .before .before)) (pass _ (sized sizes)
+    (halt-if _ (ne-eqb _ _ (λ e. c .if2 .taken (e ∙ sym (c .before .length-for .ensures)))) refl))
+
+passed : tie.Need-returns-4
+unfolding sizesStage
+passed c =
+    let whole = c .before in
+    let sizes = whole .before .before in
+    pass-if _ _ (long (sizes .before .before .before)) (pass _ (sized sizes)
+    (pass-if _ _ (eq-eqb _ _ (whole .if2 .left ∙ whole .before .length-for .ensures)) (c .parts .ensures)))
+
+pub validate-spec : {M : Type 1} → statement M
+validate-spec =
+    tie.close
+    (tie.spec
+    short
+    (λ c κs. search needs)
+    (λ c. search needs)
+    size-broken
+    (λ c. search needs)
+    (λ c κs. search needs)
+    length-broken
+    (λ c κs. few-nodes (c .before .before))
+    passed)

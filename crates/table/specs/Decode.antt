@@ -1,0 +1,98 @@
+-- What stands at a node and at a point, with no recursion (document 01, 'Task table').
+-- Assumes nothing.
+use Prim.Native.Nat.{ℕ, _<_}
+use mathlib.Core.Bool.{Bool, true, false, _&&_}
+use mathlib.Core.List.{List}
+use lib.Dec.{eqb, leb, ltb}
+use lib.IntN.{ℤ}
+use Rattle.interval.specs.declared.Operation.{Operation}
+use Rattle.interval.specs.declared.Operation.the-variants.{Sum, Difference, Product, Quotient}
+use Rattle.interval.specs.declared.Comparison.{Comparison}
+use Rattle.interval.specs.declared.Comparison.the-variants.{Less, AtMost, Equal, NotEqual}
+use Rattle.words.specs.Words.{numberOf, inside}
+use Rattle.table.specs.declared.Four.{Four}
+use Rattle.table.specs.declared.Shape.{Shape}
+use Rattle.table.specs.declared.Shape.the-variants.{Constant, Input, Variable, Negation, Binary, Choice, Compare, Both, Either, Not, Bad}
+use Rattle.table.specs.declared.Point.{Point}
+use Rattle.table.specs.declared.Point.the-variants.{End, Assign, Test, Lock, Unlock}
+use Rattle.table.specs.Layout.{fourOf}
+
+abbrev pub pick : {A : Type 0} → Bool → A → A → A
+pick true x y = x
+pick false x y = y
+
+-- ---- kinds of nodes
+-- 'arithmetic nodes' 0 to 8, 'conditions' 16 to 22
+abbrev pub isArithmetic : ℕ → Bool
+isArithmetic k = leb k 8
+
+abbrev pub isCondition : ℕ → Bool
+isCondition k = inside 16 22 k
+
+-- '4 sum, 5 difference, 6 product, 7 quotient'
+unfoldable pub operationOf : ℕ → Operation
+operationOf k = pick (eqb k 4) Sum (pick (eqb k 5) Difference (pick (eqb k 6) Product Quotient))
+
+-- '16 less, 17 at most, 18 equal, 19 not equal'
+unfoldable pub comparisonOf : ℕ → Comparison
+comparisonOf k = pick (eqb k 16) Less (pick (eqb k 17) AtMost (pick (eqb k 18) Equal NotEqual))
+
+-- ---- shapes
+-- 'a child's number is below its parent's': the shape s where that holds
+unfoldable pub kept : Bool → Shape → Shape
+kept true s = s
+kept false s = Bad
+
+-- the shape of the node n of the kind k, by its words x y and the numbers a b c of its fields
+unfoldable pub shapeBy : ℕ → ℕ → ℤ → ℤ → ℕ → ℕ → ℕ → Shape
+shapeBy n k x y a b c =
+    pick (eqb k 0) (Constant x)
+    (pick (eqb k 1) (Input x y)
+    (pick (eqb k 2) (Variable a)
+    (pick (eqb k 3) (kept (ltb a n) (Negation a))
+    (pick (inside 4 7 k) (kept (ltb a n && ltb b n) (Binary (operationOf k) a b))
+    (pick (eqb k 8) (kept (ltb a n && (ltb b n && ltb c n)) (Choice a b c))
+    (pick (inside 16 19 k) (kept (ltb a n && ltb b n) (Compare (comparisonOf k) a b))
+    (pick (eqb k 20) (kept (ltb a n && ltb b n) (Both a b))
+    (pick (eqb k 21) (kept (ltb a n && ltb b n) (Either a b))
+    (pick (eqb k 22) (kept (ltb a n) (Not a))
+    Bad)))))))))
+
+unfoldable pub shapeFrom : ℕ → Four → Shape
+shapeFrom n f = shapeBy n (numberOf (f .kind)) (f .a) (f .b) (numberOf (f .a)) (numberOf (f .b)) (numberOf (f .c))
+
+-- the shape of the node n of the nodes ns
+abbrev pub shapeOf : List ℤ → ℕ → Shape
+shapeOf ns n = shapeFrom n (fourOf ns n)
+
+-- every child of a node n of this shape is below n
+abbrev pub Below : ℕ → Shape → Type 0
+Below n (Constant z) = Unit {0}
+Below n (Input l h) = Unit {0}
+Below n (Variable v) = Unit {0}
+Below n (Negation x) = x < n
+Below n (Binary op x y) = (x < n) × (y < n)
+Below n (Choice x y z) = (x < n) × (y < n) × (z < n)
+Below n (Compare k x y) = (x < n) × (y < n)
+Below n (Both x y) = (x < n) × (y < n)
+Below n (Either x y) = (x < n) × (y < n)
+Below n (Not x) = x < n
+Below n Bad = Unit {0}
+
+-- ---- points
+-- '0 end; 1 assign variable a from arithmetic node b, go to c; 2 test condition node a, yes to b, no to c; 3 lock mutex a, go to b; 4 unlock
+-- mutex a, go to b'
+unfoldable pub pointBy : ℕ → ℕ → ℕ → ℕ → Point
+pointBy k a b c =
+    pick (eqb k 1) (Assign a b c)
+    (pick (eqb k 2) (Test a b c)
+    (pick (eqb k 3) (Lock a b)
+    (pick (eqb k 4) (Unlock a b)
+    End)))
+
+unfoldable pub pointFrom : Four → Point
+pointFrom f = pointBy (numberOf (f .kind)) (numberOf (f .a)) (numberOf (f .b)) (numberOf (f .c))
+
+-- what stands at the point p of the points ps
+abbrev pub pointOf : List ℤ → ℕ → Point
+pointOf ps p = pointFrom (fourOf ps p)

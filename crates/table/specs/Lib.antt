@@ -1,0 +1,10 @@
+pub mod Layout
+pub mod Decode
+pub mod Tree
+pub mod Meaning
+pub mod Formed
+pub mod Uses
+pub mod Validate
+pub mod Passes
+pub mod Laws
+pub mod Examples

@@ -1,0 +1,120 @@
+// What stands at a node and at a point.
+use crate::Four;
+use crate::Point;
+use crate::Shape;
+use crate::layout::four;
+use interval::Comparison;
+use interval::Operation;
+use words::number;
+ghost use mathlib.Core.Path.{_≡_};
+ghost use mathlib.Core.Bool.{_&&_};
+ghost use lib.Dec.{ltb};
+ghost use Rattle.table.specs.Decode.{operationOf, comparisonOf, shapeBy, shapeFrom, shapeOf, pointBy, pointFrom, pointOf};
+
+fn operation(k: usize) -> Operation
+    ensures { λ r. ⌜ r ≡ operationOf k ⌝ }
+{
+    match k {
+        4 => Operation::Sum,
+        5 => Operation::Difference,
+        6 => Operation::Product,
+        _ => Operation::Quotient,
+    }
+}
+
+fn comparison(k: usize) -> Comparison
+    ensures { λ r. ⌜ r ≡ comparisonOf k ⌝ }
+{
+    match k {
+        16 => Comparison::Less,
+        17 => Comparison::AtMost,
+        18 => Comparison::Equal,
+        _ => Comparison::NotEqual,
+    }
+}
+
+// Whether both children are below their parent n.
+fn both_below(n: usize, a: usize, b: usize) -> bool
+    ensures { λ r. ⌜ r ≡ ltb a n && ltb b n ⌝ }
+{
+    (a < n) & (b < n)
+}
+
+// The shape of the node n of the kind k, by its words x and y and the numbers of its fields.
+fn shape_by(n: usize, k: usize, x: i32, y: i32, a: usize, b: usize, c: usize) -> Shape
+    ensures { λ r. ⌜ r ≡ shapeBy n k x y a b c ⌝ }
+{
+    match k {
+        0 => Shape::Constant(x),
+        1 => Shape::Input(x, y),
+        2 => Shape::Variable(a),
+        3 => if a < n {
+            Shape::Negation(a)
+        } else {
+            Shape::Bad
+        },
+        4..=7 => if both_below(n, a, b) {
+            Shape::Binary(operation(k), a, b)
+        } else {
+            Shape::Bad
+        },
+        8 => if (a < n) & ((b < n) & (c < n)) {
+            Shape::Choice(a, b, c)
+        } else {
+            Shape::Bad
+        },
+        16..=19 => if both_below(n, a, b) {
+            Shape::Compare(comparison(k), a, b)
+        } else {
+            Shape::Bad
+        },
+        20 => if both_below(n, a, b) {
+            Shape::Both(a, b)
+        } else {
+            Shape::Bad
+        },
+        21 => if both_below(n, a, b) {
+            Shape::Either(a, b)
+        } else {
+            Shape::Bad
+        },
+        22 => if a < n { Shape::Not(a) } else { Shape::Bad },
+        _ => Shape::Bad,
+    }
+}
+
+// The shape of the node n of a table's node words.
+pub fn shape_at(nodes: &[i32], n: usize) -> Shape
+    ensures { λ r. ⌜ r ≡ shapeOf (now (nodes .entry)) n ⌝ }
+{
+    let f = four(nodes, n);
+    shape_by(
+        n,
+        number(f.kind),
+        f.a,
+        f.b,
+        number(f.a),
+        number(f.b),
+        number(f.c),
+    )
+}
+
+fn point_by(k: usize, a: usize, b: usize, c: usize) -> Point
+    ensures { λ r. ⌜ r ≡ pointBy k a b c ⌝ }
+{
+    match k {
+        1 => Point::Assign(a, b, c),
+        2 => Point::Test(a, b, c),
+        3 => Point::Lock(a, b),
+        4 => Point::Unlock(a, b),
+        _ => Point::End,
+    }
+}
+
+// What stands at the point p of a table's point words.
+pub fn point_at(points: &[i32], p: usize) -> Point
+    ensures { λ r. ⌜ r ≡ pointOf (now (points .entry)) p ⌝ }
+{
+    let f = four(points, p);
+    point_by(number(f.kind), number(f.a), number(f.b), number(f.c))
+}

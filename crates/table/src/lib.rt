@@ -1,0 +1,106 @@
+// A task table: its layout, what stands at its nodes and points, and refusals 1 to 6.
+ghost use Rattle.table.specs.Laws.{Laws};
+ghost use Rattle.table.specs.Examples.{Starred};
+
+pub mod decode;
+mod formed;
+pub mod layout;
+mod uses;
+pub mod validate;
+
+// The five sizes.
+pub struct Sizes {
+    pub tasks: usize,
+    pub variables: usize,
+    pub mutexes: usize,
+    pub points: usize,
+    pub nodes: usize,
+}
+
+// The four words of a point or a node.
+pub struct Four {
+    pub kind: i32,
+    pub a: i32,
+    pub b: i32,
+    pub c: i32,
+}
+
+// What stands at a node, its children by their numbers. Kinds 4 to 7 are one shape with the operation's name, and so are 16 to 19 with the
+// comparison's. Bad: an unknown kind, or a child that is not below its parent.
+pub enum Shape {
+    Constant(i32),
+    Input(i32, i32),
+    Variable(usize),
+    Negation(usize),
+    Binary(interval::Operation, usize, usize),
+    Choice(usize, usize, usize),
+    Compare(interval::Comparison, usize, usize),
+    Both(usize, usize),
+    Either(usize, usize),
+    Not(usize),
+    Bad,
+}
+
+// What stands at a point. An unknown kind is an end.
+pub enum Point {
+    End,
+    // variable, arithmetic node, target
+    Assign(usize, usize, usize),
+    // condition node, target on yes, target on no
+    Test(usize, usize, usize),
+    // mutex, target
+    Lock(usize, usize),
+    Unlock(usize, usize),
+}
+
+// What a field of a node or a point must be.
+pub enum Field {
+    // 0
+    Unused,
+    Any,
+    // this word or a greater one
+    AtLeast(i32),
+    Variable,
+    Mutex,
+    Arithmetic,
+    Condition,
+    // a point of the same task
+    Target,
+    // nothing will do: the kind is unknown
+    Unknown,
+}
+
+// What the three fields must be.
+pub struct Fields {
+    pub a: Field,
+    pub b: Field,
+    pub c: Field,
+}
+
+// What a field may name: so many variables and mutexes, the nodes below a number, so many points, those of one task.
+pub struct Limits {
+    pub variables: usize,
+    pub mutexes: usize,
+    pub nodes: usize,
+    pub points: usize,
+    pub task: usize,
+}
+
+// What the evaluation of arithmetic comes to, with the position in the schedule after it: a value, or an error at a node, of a kind (1
+// overflow, 2 division by zero).
+pub enum Evaluation {
+    Value(i32, usize),
+    Error(usize, usize, usize),
+}
+
+// The same of a condition.
+pub enum Verity {
+    Truth(bool, usize),
+    Failure(usize, usize, usize),
+}
+
+// Does nothing: its contract is every law of the crate and the worked examples, so that none of them can go unproved.
+pub fn laws_hold()
+    ensures { λ r. ⌜ Laws ⌝ }
+    ensures { λ r. ⌜ Starred ⌝ }
+{}
