@@ -1,16 +1,16 @@
 -- A loop that fills a list d from the front with a function's values, one store a turn. Its invariant is `Filled f d n k l`, with k the loop's
 -- counter and l the list as it is; its measure is n - k.
 --     fill, fills     where the loop begins, and after a turn
---     filled          where k has come to n
+--     filled          where k has come to n; filled-whole where d has just n places
 --     kept            the list's length
 -- Assumes nothing.
 use Prim.Native.Nat.{ℕ, zero, suc, _+_, _<_, _≤_, zero-le}
 use mathlib.Core.Path.{_≡_, refl, sym, ap, subst, _∙_}
-use mathlib.Core.List.{List, [], _∷_, _++_, append-assoc}
+use mathlib.Core.List.{List, [], _∷_, _++_, append-nil}
 use native.Mathlib.Nat.{le-antisymm}
 use native.Mathlib.Numerals.{add-one}
 use native.Mathlib.Omega.{arith}
-use lib.ListN.{length, set, drop, length-append, length-drop}
+use lib.ListN.{length, set, drop, length-append, length-drop, drop-of-length-le}
 use lib.Seq.{drop-cons, set-at, append-snoc}
 use Rattle.words.specs.Tabulate.{tabulate}
 
@@ -19,6 +19,12 @@ module _ {A : Type 0} where
   unfolding tabulate
   length-tabulate f zero = refl
   length-tabulate f (suc n) = let h = length-tabulate f n in simp length-append (omega arith)
+
+  -- the list from its first value on
+  pub tabulate-front : (f : ℕ → A) (n : ℕ) → tabulate f (suc n) ≡ f 0 ∷ tabulate (λ i. f (suc i)) n
+  unfolding tabulate
+  tabulate-front f zero = refl
+  tabulate-front f (suc n) = ap (λ (l : List A). l ++ (f (suc n) ∷ [])) (tabulate-front f n)
 
   pub record Filled (f : ℕ → A) (d : List A) (n k : ℕ) (l : List A) : Type 0 where
     pub within : k ≤ n
@@ -45,6 +51,10 @@ module _ {A : Type 0} where
 
   pub filled : {f : ℕ → A} {d l : List A} {n k : ℕ} → Filled f d n k l → n ≤ k → l ≡ tabulate f n ++ drop n d
   filled {f} {d} {l} {n} {k} s h = subst (λ (j : ℕ). l ≡ tabulate f j ++ drop j d) (le-antisymm (s .within) h) (s .is)
+
+  -- where d has no more than n places, nothing of it is left
+  pub filled-whole : {f : ℕ → A} {d l : List A} {n k : ℕ} → Filled f d n k l → n ≤ k → length d ≡ n → l ≡ tabulate f n
+  filled-whole {f} {d} {l} {n} {k} s h e = rw (filled s h, drop-of-length-le d {i = n} (omega arith)) (append-nil (tabulate f n))
 
   pub kept : {f : ℕ → A} {d l : List A} {n k : ℕ} → Filled f d n k l → length l ≡ length d
   kept {f} {d} {l} {n} {k} s =

@@ -1,0 +1,9 @@
+pub mod RowLaws
+pub mod AlarmLaws
+pub mod OutcomeLaws
+pub mod NodeLaws
+pub mod AnalysisLaws
+pub mod Laws
+pub mod RowCodeLaws
+pub mod WalkLaws
+pub mod NarrowCodeLaws

@@ -1,0 +1,45 @@
+-- What the analysis means for the evaluation of trees, for every tree, row, values within the row, schedule and position. The function `laws_hold`
+-- has these laws as its contract; they are all that a whole run needs of this crate.
+-- Assumes nothing.
+use Prim.Native.Nat.{ℕ, _<_}
+use mathlib.Core.Path.{_≡_}
+use mathlib.Core.Bool.{Bool, true}
+use mathlib.Core.List.{List}
+use mathlib.Core.Logic.{_⊎_}
+use lib.IntN.{ℤ}
+use lib.ListN.{getD, replicate}
+use lib.Dec.{eqb}
+use Rattle.interval.specs.Interval.{Holds}
+use Rattle.interval.specs.Compare.{allows}
+use Rattle.table.specs.declared.Evaluation.the-variants.{Value, Error}
+use Rattle.table.specs.declared.Verity.the-variants.{Truth, Failure}
+use Rattle.table.specs.Tree.{Arith, Cond}
+use Rattle.table.specs.Meaning.{result, truth}
+use Rattle.analysis.specs.declared.Row.{Row}
+use Rattle.analysis.specs.declared.Alarm.{Alarm}
+use Rattle.analysis.specs.Rows.{Inside, Kept, MaybeWithin}
+use Rattle.analysis.specs.Alarms.{lists, placeOf, markedOf}
+use Rattle.analysis.specs.Analysis.{valueOf, alarmsOf, decisionOf, condAlarmsOf, narrowOf}
+
+abbrev pub IsKind : ℕ → Type 0
+IsKind k = (k ≡ 1) ⊎ (k ≡ 2)
+
+pub record Kinds (l : List Alarm) : Type 0 where
+  pub kind : (n k : ℕ) → lists n k l ≡ true → IsKind k
+
+pub record Laws : Type 0 where
+  -- a value that evaluation gives lies in the interval
+  pub value-contains : (x : Arith) (r : Row) (vs ws : List ℤ) (p : ℕ) → Inside vs r → (z : ℤ) (q : ℕ) → result x vs ws p ≡ Value z q → Holds (valueOf x r) z
+  -- an error that ends it is among the alarms
+  pub error-listed : (x : Arith) (r : Row) (vs ws : List ℤ) (p : ℕ) → Inside vs r → (n k q : ℕ) → result x vs ws p ≡ Error n k q → lists n k (alarmsOf x r) ≡ true
+  -- a condition's truth is one that the decision allows
+  pub truth-allowed : (c : Cond) (r : Row) (vs ws : List ℤ) (p : ℕ) → Inside vs r → (b : Bool) (q : ℕ) → truth c vs ws p ≡ Truth b q → allows (decisionOf c r) b ≡ true
+  pub failure-listed : (c : Cond) (r : Row) (vs ws : List ℤ) (p : ℕ) → Inside vs r → (n k q : ℕ) → truth c vs ws p ≡ Failure n k q → lists n k (condAlarmsOf c r) ≡ true
+  -- the row narrowed by that truth isn't none, and the values lie within it
+  pub narrow-keeps : (c : Cond) (r : Row) (vs ws : List ℤ) (p : ℕ) → Inside vs r → (b : Bool) (q : ℕ) → truth c vs ws p ≡ Truth b q → Kept vs (narrowOf c b r)
+  -- a narrowed row lies within the row it came from
+  pub narrow-within : (c : Cond) (w : Bool) (r : Row) → MaybeWithin (narrowOf c w r) r
+  -- every alarm is of kind 1 or 2, and the marks of a list of such alarms are that set of pairs
+  pub alarms-kinds : (x : Arith) (r : Row) → Kinds (alarmsOf x r)
+  pub condAlarms-kinds : (c : Cond) (r : Row) → Kinds (condAlarmsOf c r)
+  pub marked-lists : (l : List Alarm) (room n k : ℕ) → Kinds l → IsKind k → placeOf n k < room → eqb (getD (markedOf (replicate room 0) l) (placeOf n k) 0) 1 ≡ lists n k l

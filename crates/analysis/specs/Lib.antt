@@ -1,0 +1,4 @@
+pub mod Rows
+pub mod Alarms
+pub mod Analysis
+pub mod Laws
