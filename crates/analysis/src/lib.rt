@@ -1,6 +1,7 @@
 // The analysis of a tree on a row: the interval of arithmetic, the decision of a condition, their alarms, and the row that a condition of a known
 // truth leaves. A row that is read is two lent slices; only narrowing makes a row of its own.
 ghost use Rattle.analysis.specs.Laws.{Laws};
+ghost use Rattle.analysis.specs.Examples.{Starred};
 
 pub mod alarms;
 pub mod evaluate;
@@ -25,7 +26,8 @@ pub struct Alarm {
     pub kind: usize,
 }
 
-// Does nothing: its contract is every law of the crate, so that none of them can go unproved.
+// Does nothing: its contract is every law of the crate and the worked examples, so that none of them can go unproved.
 pub fn laws_hold()
     ensures { λ r. ⌜ Laws ⌝ }
+    ensures { λ r. ⌜ Starred ⌝ }
 {}

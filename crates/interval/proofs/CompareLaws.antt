@@ -4,6 +4,7 @@ use mathlib.Core.Path.{_≡_, refl, sym, _∙_}
 use mathlib.Core.Bool.{Bool, true, false, cond, not, _&&_, _||_}
 use lib.IntN.{ℤ}
 use lib.Signed.{leZ, ltZ, _≤ℤ_, ≤ℤ-refl}
+use borrow.Author.Tests.{not-false}
 use Rattle.interval.specs.Integer.{eqZ}
 use Rattle.interval.specs.Interval.{Holds}
 use Rattle.interval.specs.Lattice.{_⊑_}
@@ -29,14 +30,6 @@ or-mono false t false t′ f g e = g e
 not-anti : (s t : Bool) → (t ≡ true → s ≡ true) → not s ≡ true → not t ≡ true
 not-anti s true f e = rw (f refl) at e
 not-anti s false f e = refl
-
-pub not-true : (t : Bool) → not t ≡ true → t ≡ false
-not-true true e = sym e
-not-true false e = refl
-
-pub not-false : (t : Bool) → not t ≡ false → t ≡ true
-not-false true e = refl
-not-false false e = sym e
 
 -- ---- decisions that allow more
 -- from its two truths

@@ -101,10 +101,6 @@ eq-nat {a} {b} e = rw e
 
 pub ruleset ints = (arith, le-nat, lt-nat, eq-nat)
 
--- an example: sums, a difference and an order, at once
-shifted : (a b c d : ℤ) → a ≤ℤ b → (b +ℤ c) ≤ℤ d → a ≤ℤ (d -ℤ c)
-shifted a b c d h k = nat-le a (d -ℤ c) (omega (ints, sum-nat b c, difference-nat d c))
-
 -- ---- the order's laws
 pub ≤-trans : {a b c : ℤ} → a ≤ℤ b → b ≤ℤ c → a ≤ℤ c
 ≤-trans {a} {b} {c} h k = nat-le a c (omega ints)
@@ -317,11 +313,6 @@ signs (pos (suc n)) h = inr (record { le = le→leb 1 (suc n) (suc-le-suc zero-l
 signs (negsuc n) h = inl (record { le = le→leb 0 n zero-le })
 
 -- ---- the lesser of two, from a test `b < a`
-pub min-taken : (a b : ℤ) → ltZ b a ≡ true → minZ a b ≡ b
-min-taken a b e = ≤-antisym (min-right a b) (min-above (lt-le (ltZ-yes′ b a e)) (≤ℤ-refl b))
-
-pub min-left-out : (a b : ℤ) → ltZ b a ≡ false → minZ a b ≡ a
-min-left-out a b e = ≤-antisym (min-left a b) (min-above (≤ℤ-refl a) (ltZ-no′ b a e))
 
 -- ---- the test of equality
 pub clash : {X : Type 0} → true ≡ false → X

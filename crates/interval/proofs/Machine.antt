@@ -149,19 +149,7 @@ cut-fits lo hi {l} {h} p q t =
     let k : l ≤ℤ h = leZ-yes′ l h t in
     (fits32 l a (≤-trans k b), fits32 h (≤-trans a k) b)
 
--- ---- a range as linear arithmetic of ℕ, for `omega (ints, ..)`: what a number that fits is known to keep, and what shows that one fits
+-- ---- a word as linear arithmetic of ℕ, for `omega (ints, ..)`
 pub fits32-nat : {z : ℤ} → SFits w32 z → (up z < 2147483648) × (dn z ≤ 2147483648)
 fits32-nat {z = pos n} f = let k : n < 2147483648 = f .sfits in (k, omega arith)
 fits32-nat {z = negsuc n} f = let k : n < 2147483648 = f .sfits in (omega arith, k)
-
-pub fits64-nat : {z : ℤ} → SFits w64 z → (up z < 9223372036854775808) × (dn z ≤ 9223372036854775808)
-fits64-nat {z = pos n} f = let k : n < 9223372036854775808 = f .sfits in (k, omega arith)
-fits64-nat {z = negsuc n} f = let k : n < 9223372036854775808 = f .sfits in (omega arith, k)
-
-pub nat-fits32 : (z : ℤ) → up z < dn z + 2147483648 → dn z ≤ up z + 2147483648 → SFits w32 z
-nat-fits32 (pos n) h k = record { sfits = omega arith }
-nat-fits32 (negsuc n) h k = record { sfits = omega arith }
-
-pub nat-fits64 : (z : ℤ) → up z < dn z + 9223372036854775808 → dn z ≤ up z + 9223372036854775808 → SFits w64 z
-nat-fits64 (pos n) h k = record { sfits = omega arith }
-nat-fits64 (negsuc n) h k = record { sfits = omega arith }

@@ -4,6 +4,7 @@ use mathlib.Core.Path.{_≡_, refl, sym, _∙_}
 use mathlib.Core.Bool.{Bool, true, false, cond, _&&_}
 use lib.IntN.{ℤ, pos, _+ℤ_, _-ℤ_}
 use lib.Signed.{leZ, _≤ℤ_, ≤ℤ-refl}
+use borrow.Author.Tests.{not-true, not-false}
 use Rattle.interval.specs.Integer.{eqZ}
 use Rattle.interval.specs.Interval.{Holds}
 use Rattle.interval.specs.Lattice.{_⊑_}
@@ -18,7 +19,6 @@ use Rattle.interval.specs.declared.Comparison.the-variants.{Less, AtMost
 use Rattle.interval.proofs.IntegerLaws.{≤-trans, add-mono, sub-mono, suc-above, pred-below, suc-low, pred-high, past-low, le-true, lt-true, leZ-yes′, leZ-no′, ltZ-yes′, ltZ-no′, min-left, min-right, max-left, max-right, min-above, max-below, min-mono, max-mono, and-left, and-right, eqZ-yes, eqZ-no}
 use Rattle.interval.proofs.IntervalLaws.{first, last, Inside, inside, single-inside, inside-single, onBoth-holds, onBoth-cases, fromTo-holds}
 use Rattle.interval.proofs.LatticeLaws.{none-within, within-holds, holds-within, onBoth-mono, fromTo-inside, fromTo-mono}
-use Rattle.interval.proofs.CompareLaws.{not-true, not-false}
 
 -- ---- two cuts
 -- x and y each lie in their side

@@ -25,13 +25,6 @@ pub and-false : (a : Bool) → a && false ≡ false
 and-false true = refl
 and-false false = refl
 
--- a chain of tests: one that holds leaves the rest, and one that fails ends it
-pub and-go : {a b v : Bool} → a ≡ true → v ≡ b → v ≡ (a && b)
-and-go e q = rw e q
-
-pub and-stop : (b : Bool) {a : Bool} → a ≡ false → false ≡ (a && b)
-and-stop b e = rw e
-
 -- ---- either
 pub or-left : {a : Bool} (b : Bool) → a ≡ true → a || b ≡ true
 or-left b e = rw e

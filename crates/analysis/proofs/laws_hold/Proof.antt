@@ -1,10 +1,11 @@
 -- `analysis::laws_hold` meets its contract: the laws are proved. Assumes nothing.
+use Rattle.analysis.specs.Examples.{starred}
 use Rattle.analysis.proofs.Laws.{proved}
 use Rattle.analysis.proofs.laws_hold.Statement.{statement}
 use Rattle.analysis.proofs.laws_hold.Tie as tie
 
 returns : tie.Need-returns
-returns c = proved
+returns c = (proved, starred)
 
 pub laws-hold-spec : {M : Type 1} → statement M
 laws-hold-spec = tie.close (tie.spec returns)

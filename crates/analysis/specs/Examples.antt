@@ -1,0 +1,85 @@
+-- The starred examples of document 01 for trees on a row, on the words of their nodes, in one table proved by computation.
+-- Assumes nothing.
+use mathlib.Core.Path.{_≡_, refl}
+use mathlib.Core.Bool.{true}
+use mathlib.Core.List.{List, [], _∷_, map}
+use lib.IntN.{ℤ, pos}
+use Rattle.interval.specs.Integer.{minZ, maxZ, min4Z, max4Z, eqZ}
+use Rattle.interval.specs.Interval.{onEnds}
+use Rattle.interval.specs.Lattice.{meetOf, joinOf}
+use Rattle.interval.specs.Arithmetic.{hullOf, belowOf, aboveOf, eitherPartOf, uncutOf, computedOf, negateOf, operateOf}
+use Rattle.interval.specs.Compare.{decideOf, compareOf}
+use Rattle.interval.specs.Narrow.{keptOf, cutsAt, cutsForOf, cutsOf}
+use Rattle.interval.specs.declared.Interval.{Interval}
+use Rattle.interval.specs.declared.Interval.the-variants.{None, Between}
+use Rattle.words.specs.Words.{numberOf}
+use Rattle.table.specs.Layout.{fourBy, fourOf}
+use Rattle.table.specs.Decode.{operationOf, comparisonOf, kept, shapeBy, shapeFrom}
+use Rattle.table.specs.Tree.{arithBy, condBy, arithF, arithAt, condAt}
+use Rattle.analysis.specs.declared.Row.{Row}
+use Rattle.analysis.specs.declared.Alarm.{Alarm}
+use Rattle.analysis.specs.Rows.{rowOf, Maybe, none, some, rowIf, thenRow, putOf, meetAtOf}
+use Rattle.analysis.specs.Alarms.{alarmOf, alarmIf, toldOf}
+use Rattle.analysis.specs.Analysis.{rangeOn, alarmsOn, carryOf, carryBothOf, valueOf, alarmsOf, narrowOf}
+
+-- what a tree gives on a row: its interval and alarms, or the row that it leaves
+pub data Answer : Type 0 where
+  values : Interval → List Alarm → Answer
+  leaves : Maybe → Answer
+
+pub record Example : Type 0 where
+  pub got : Answer
+  pub said : Answer
+
+abbrev example : Answer → Answer → Example
+example g s = record { got = g; said = s }
+
+-- one variable
+abbrev row : ℤ → ℤ → Row
+row lo hi = rowOf (lo ∷ []) (hi ∷ [])
+
+-- v < v
+abbrev less : List ℤ
+less =
+    pos 2 ∷ pos 0 ∷ pos 0 ∷ pos 0
+    ∷ pos 2 ∷ pos 0 ∷ pos 0 ∷ pos 0
+    ∷ pos 16 ∷ pos 0 ∷ pos 1 ∷ pos 0
+    ∷ []
+
+-- 10 / v
+abbrev ratio : List ℤ
+ratio =
+    pos 0 ∷ pos 10 ∷ pos 0 ∷ pos 0
+    ∷ pos 2 ∷ pos 0 ∷ pos 0 ∷ pos 0
+    ∷ pos 7 ∷ pos 0 ∷ pos 1 ∷ pos 0
+    ∷ []
+
+-- v = 0 ? 0 : 10 / v
+abbrev guarded : List ℤ
+guarded =
+    pos 2 ∷ pos 0 ∷ pos 0 ∷ pos 0
+    ∷ pos 0 ∷ pos 0 ∷ pos 0 ∷ pos 0
+    ∷ pos 18 ∷ pos 0 ∷ pos 1 ∷ pos 0
+    ∷ pos 0 ∷ pos 0 ∷ pos 0 ∷ pos 0
+    ∷ pos 0 ∷ pos 10 ∷ pos 0 ∷ pos 0
+    ∷ pos 2 ∷ pos 0 ∷ pos 0 ∷ pos 0
+    ∷ pos 7 ∷ pos 4 ∷ pos 5 ∷ pos 0
+    ∷ pos 8 ∷ pos 2 ∷ pos 3 ∷ pos 6
+    ∷ []
+
+unfoldable pub table : List Example
+table =
+    -- v < v on 0..9 narrows to 1..8
+    example (leaves (narrowOf (condAt less 2) true (row (pos 0) (pos 9)))) (leaves (some (row (pos 1) (pos 8))))
+    -- 10 divided by a variable within 0..5: 2..10, zero possible
+    ∷ example (values (valueOf (arithAt ratio 2) (row (pos 0) (pos 5))) (alarmsOf (arithAt ratio 2) (row (pos 0) (pos 5)))) (values (Between (pos 2) (pos 10)) (alarmOf 2 2 ∷ []))
+    -- v = 0 ? 0 : 10 / v on 0..5 lists zero
+    ∷ example (values (valueOf (arithAt guarded 7) (row (pos 0) (pos 5))) (alarmsOf (arithAt guarded 7) (row (pos 0) (pos 5)))) (values (Between (pos 0) (pos 10)) (alarmOf 6 2 ∷ []))
+    ∷ []
+
+abbrev pub Starred : Type 0
+Starred = map (λ (e : Example). e .got) table ≡ map (λ (e : Example). e .said) table
+
+pub starred : Starred
+unfolding table minZ maxZ min4Z max4Z eqZ onEnds meetOf joinOf hullOf belowOf aboveOf eitherPartOf uncutOf computedOf negateOf operateOf decideOf compareOf keptOf cutsAt cutsForOf cutsOf numberOf fourBy fourOf operationOf comparisonOf kept shapeBy shapeFrom arithBy condBy arithF arithAt condAt rowIf thenRow putOf meetAtOf alarmIf toldOf rangeOn alarmsOn carryOf carryBothOf valueOf
+starred = refl
