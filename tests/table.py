@@ -154,7 +154,7 @@ CASES += [
 # 6: a first, a middle and a last node that is not used, or used twice
 CASES += [
     (changed(node=(2, [4, 1, 1, 0])), (6, 0)), (changed(node=(2, [4, 0, 0, 0])), (6, 0)), (changed(node=(8, [18, 6, 6, 0])), (6, 6)), (changed(node=(8, [18, 7, 7, 0])), (6, 6)),
-    (changed(point=(1, [3, 0, 2, 0])), (6, 13)), (changed(point=(3, [3, 0, 4, 0])), (6, 16)), (changed(node=(13, [8, 10, 12, 12])), (6, 11)),
+    (changed(point=(1, [3, 0, 2, 0])), (6, 13)), (changed(point=(3, [3, 0, 4, 0])), (6, 16)), (changed(point=(6, [2, 16, 4, 6])), (6, 16)), (changed(node=(13, [8, 10, 12, 12])), (6, 11)),
 ]
 
 

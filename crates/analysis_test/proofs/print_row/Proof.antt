@@ -1,0 +1,30 @@
+-- `analysis_test::print_row` is safe and ends: the number of variables left falls. Assumes nothing.
+use Prim.Native.Nat.{_-_}
+use borrow.Author.Needs.{needs}
+use Rattle.analysis_test.proofs.print_row.Statement.{statement}
+use Rattle.analysis_test.proofs.print_row.Tie as tie
+
+abbrev Inv-loop : tie.InvT-loop
+Inv-loop lows highs n v₀ t6 v = Unit {0}
+
+abbrev μ-loop : tie.MeasureT-loop
+μ-loop lows highs n v₀ t6 v = n - v
+
+pub print-row-spec : {M : Type 1} → statement M
+print-row-spec =
+    tie.close
+    (tie.spec
+    Inv-loop
+    μ-loop
+    (λ c. search needs)
+    (λ c κs. search needs)
+    (λ c. tt)
+    (λ c κs. search needs)
+    (λ c κs. search needs)
+    (λ c κs. search needs)
+    (λ c. search needs)
+    (λ c. search needs)
+    (λ c. tt)
+    (λ c. search needs)
+    (λ c κs. search needs)
+    (λ c. search needs))
