@@ -3,7 +3,6 @@
 -- Assumes nothing.
 use mathlib.Core.Bool.{Bool, true, false}
 use mathlib.Core.List.{List, [], _++_}
-use Prim.Native.Nat.{ℕ}
 use lib.IntN.{pos}
 use Rattle.interval.specs.Integer.{maxZ}
 use Rattle.interval.specs.Lattice.{joinOf}

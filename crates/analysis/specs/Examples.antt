@@ -11,14 +11,14 @@ use Rattle.interval.specs.Arithmetic.{hullOf, belowOf, aboveOf, eitherPartOf, u
 use Rattle.interval.specs.Compare.{decideOf, compareOf}
 use Rattle.interval.specs.Narrow.{keptOf, cutsAt, cutsForOf, cutsOf}
 use Rattle.interval.specs.declared.Interval.{Interval}
-use Rattle.interval.specs.declared.Interval.the-variants.{None, Between}
+use Rattle.interval.specs.declared.Interval.the-variants.{Between}
 use Rattle.words.specs.Words.{numberOf}
 use Rattle.table.specs.Layout.{fourBy, fourOf}
 use Rattle.table.specs.Decode.{operationOf, comparisonOf, kept, shapeBy, shapeFrom}
 use Rattle.table.specs.Tree.{arithBy, condBy, arithF, arithAt, condAt}
 use Rattle.analysis.specs.declared.Row.{Row}
 use Rattle.analysis.specs.declared.Alarm.{Alarm}
-use Rattle.analysis.specs.Rows.{rowOf, Maybe, none, some, rowIf, thenRow, putOf, meetAtOf}
+use Rattle.analysis.specs.Rows.{rowOf, Maybe, some, rowIf, thenRow, putOf, meetAtOf}
 use Rattle.analysis.specs.Alarms.{alarmOf, alarmIf, toldOf}
 use Rattle.analysis.specs.Analysis.{rangeOn, alarmsOn, carryOf, carryBothOf, valueOf, alarmsOf, narrowOf}
 

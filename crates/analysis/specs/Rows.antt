@@ -1,7 +1,6 @@
 -- Rows: an interval for each variable, a word past the end being 0; what narrowing makes of a row; and when values lie within one (document 01,
 -- 'Intervals').
 -- Assumes nothing.
-use mathlib.Core.Path.{_≡_}
 use mathlib.Core.Bool.{Bool, true, false}
 use mathlib.Core.List.{List, [], _∷_}
 use Prim.Native.Nat.{ℕ}

@@ -1,8 +1,7 @@
 -- The laws in the words of specs/Laws.
 -- Assumes nothing.
-use mathlib.Core.Path.{refl, sym}
+use mathlib.Core.Path.{sym}
 use Rattle.words.specs.Laws.{Laws}
-use Rattle.words.specs.declared.Stage.the-variants.{Passed}
 use Rattle.words.proofs.FirstLaws.{firstBad-smallest, smallest-firstBad, firstBad-none, none-firstBad, allBelow-each, each-allBelow, someBelow-one, one-someBelow}
 use Rattle.words.proofs.StageLaws.{pass, halt, go, refuse-found, refuse-later, andThen-first, andThen-later}
 

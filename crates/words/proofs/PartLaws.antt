@@ -1,12 +1,12 @@
 -- Parts of a list of words: what a part holds, and how long it is.
 -- Assumes nothing.
-use Prim.Native.Nat.{ℕ, _+_, _-_, _<_, _≤_, min}
-use mathlib.Core.Path.{_≡_, refl, sym, _∙_}
+use Prim.Native.Nat.{ℕ, _+_, _-_, _<_, _≤_}
+use mathlib.Core.Path.{_≡_, sym, _∙_}
 use mathlib.Core.List.{List, []}
 use native.Mathlib.Omega.{arith}
 use native.Mathlib.Nat.{add-sub-cancel-left}
 use lib.IntN.{ℤ, pos}
-use lib.ListN.{length, take, drop, getD, length-drop, length-take, drop-of-length-le}
+use lib.ListN.{length, take, drop, length-drop, length-take, drop-of-length-le}
 use lib.Seq.{take-all, take-nil, getD-take, getD-drop}
 use Rattle.words.specs.Words.{wordOf, partOf}
 
