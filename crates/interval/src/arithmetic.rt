@@ -16,7 +16,7 @@ use crate::integer::plus;
 use crate::integer::times;
 use crate::lattice::taken;
 ghost use mathlib.Core.Path.{_≡_};
-ghost use lib.IntN.{ℤ, pos};
+ghost use lib.IntN.{pos};
 ghost use lib.Signed.{quotZ, _≤ℤ_};
 ghost use Rattle.interval.specs.Arithmetic.{corners, hullOf, belowOf, aboveOf, eitherPartOf, uncutOf, zeroInOf, clampOf, passesOf, computedOf, nothingOf, negateOf, operateOf};
 ghost use Rattle.interval.specs.declared.Operation.the-variants.{Sum, Difference, Product, Quotient};

@@ -1,5 +1,4 @@
 // What stands at a node and at a point.
-use crate::Four;
 use crate::Point;
 use crate::Shape;
 use crate::layout::four;
@@ -9,7 +8,7 @@ use words::number;
 ghost use mathlib.Core.Path.{_≡_};
 ghost use mathlib.Core.Bool.{_&&_};
 ghost use lib.Dec.{ltb};
-ghost use Rattle.table.specs.Decode.{operationOf, comparisonOf, shapeBy, shapeFrom, shapeOf, pointBy, pointFrom, pointOf};
+ghost use Rattle.table.specs.Decode.{operationOf, comparisonOf, shapeBy, shapeOf, pointBy, pointOf};
 
 fn operation(k: usize) -> Operation
     ensures { λ r. ⌜ r ≡ operationOf k ⌝ }

@@ -4,10 +4,9 @@ use crate::Sizes;
 use words::number_at;
 use words::part;
 ghost use mathlib.Core.Path.{_≡_};
-ghost use Prim.Native.Nat.{ℕ, _≤_};
+ghost use Prim.Native.Nat.{_≤_};
 ghost use lib.ListN.{length};
-ghost use Rattle.words.specs.Words.{partOf};
-ghost use Rattle.table.specs.Layout.{sizesOf, Sized, lengthOf, sharesOf, startsOf, pointsOf, nodesOf, fourOf, firstIn, lastIn, lastTaskOf, laterOf, firstOf, taskOf};
+ghost use Rattle.table.specs.Layout.{sizesOf, Sized, lengthOf, sharesOf, startsOf, pointsOf, nodesOf, fourOf, firstIn, lastTaskOf, laterOf, firstOf, taskOf};
 
 pub fn sizes(t: &[i32]) -> Sizes
     ensures { λ r. ⌜ r ≡ sizesOf (now (t .entry)) ⌝ }

@@ -12,8 +12,6 @@ use words::Found;
 use words::number;
 ghost use mathlib.Core.Path.{_≡_};
 ghost use Prim.Native.Nat.{_≤_};
-ghost use lib.Dec.{eqb};
-ghost use lib.ListN.{getD};
 ghost use Rattle.words.specs.First.{firstBad};
 ghost use Rattle.table.specs.Layout.{sizesOf};
 ghost use Rattle.table.specs.Uses.{refOf, refsBy, nodeRefs, pointRefs, refsBelow, rule6, bumpOf, useOf, usesIn, isOneOf};
