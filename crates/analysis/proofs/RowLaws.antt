@@ -26,7 +26,7 @@ use Rattle.analysis.specs.Analysis.{branchOf}
 
 -- ---- a word put in place, and words joined place by place
 -- what holds of every word, and of the word put in, holds of every word afterwards; past the end nothing is put in
-set-all : (P : ℕ → ℤ → Type 0) (l : List ℤ) (v : ℕ) (x : ℤ) → ((w : ℕ) → P w (wordOf l w)) → P v x → (w : ℕ) → P w (wordOf (set l v x) w)
+pub set-all : (P : ℕ → ℤ → Type 0) (l : List ℤ) (v : ℕ) (x : ℤ) → ((w : ℕ) → P w (wordOf l w)) → P v x → (w : ℕ) → P w (wordOf (set l v x) w)
 set-all P [] v x h k w = h w
 set-all P (y ∷ l) zero x h k zero = k
 set-all P (y ∷ l) zero x h k (suc w) = h (suc w)
@@ -41,7 +41,7 @@ module _ (f : ℤ → ℤ → ℤ) (z : f (pos 0) (pos 0) ≡ pos 0) where
   rest-is (y ∷ m) zero = refl
   rest-is (y ∷ m) (suc v) = rest-is m v
 
-  each-is : (l m : List ℤ) (v : ℕ) → wordOf (each f l m) v ≡ f (wordOf l v) (wordOf m v)
+  pub each-is : (l m : List ℤ) (v : ℕ) → wordOf (each f l m) v ≡ f (wordOf l v) (wordOf m v)
   unfolding each
   each-is [] m v = rest-is m v
   each-is (x ∷ l) m zero = refl

@@ -20,11 +20,13 @@ use Rattle.analysis.specs.Alarms.{alarmIf, toldOf, lists}
 use Rattle.analysis.specs.Analysis.{valueOf}
 use Rattle.checker.specs.declared.Verdict.{Verdict}
 use Rattle.checker.specs.declared.Verdict.the-variants.{Accepted, Refused}
-use Rattle.checker.specs.Proposal.{entriesOf, intervalsOf, headsFrom, lowsFrom, proposalLength, heldWordOf, heldOf, headOf, lowsOf, highsOf, rowAt, entryLow, entryHigh}
-use Rattle.checker.specs.Outcomes.{rowWithinOf, assigned, writtenOf, outcomeIf, outcomesBy, outcomesOf}
-use Rattle.checker.specs.Rules.{allOutcomes, rule8, heldInRange, headInRange, rule9, rule10, holdsStart, startPoint, rule11, rule12, rule13, files, filed, writes, rule14, takes, disturbs, rule15, rests, restPoint, restEntry, rule16}
-use Rattle.checker.specs.AlarmList.{alarmsBy, raised, pairIf, pairsOf, alarmWords}
-use Rattle.checker.specs.Check.{layoutStage, rulesStage, roomStage, stagesOf, verdictBy, checkOf}
+use Rattle.rules.specs.Proposal.{entriesOf, intervalsOf, headsFrom, lowsFrom, proposalLength, heldWordOf, heldOf, headOf, lowsOf, highsOf, rowAt, entryLow, entryHigh}
+use Rattle.rules.specs.Outcomes.{rowWithinOf, assigned, writtenOf, outcomeIf, outcomesBy, outcomesOf}
+use Rattle.rules.specs.Rules.{allOutcomes, rule8, heldInRange, headInRange, rule9, beforeOf, rule10, holdsStart, startPoint, rule11, locksFit, rowsFit, rule12, rule13, files, filed, writes, rule14, takes, disturbs, undisturbed, rule15, rests, restPoint, restEntry, rule16}
+use Rattle.rules.specs.Alarms.{alarmsBy, alarmsIf, alarmsAt}
+use Rattle.rules.specs.Examine.{firstBadIn, layoutStage, wordsStage, startStage, outcomeStage, sharedStage, readyOf, examinedOf}
+use Rattle.checker.specs.AlarmList.{raised, pairIf, pairsOf, alarmWords}
+use Rattle.checker.specs.Check.{roomStage, stagesOf, verdictBy, checkOf}
 
 -- a check with room for eight words, and what the document says of it
 pub record Example : Type 0 where
@@ -58,5 +60,5 @@ abbrev pub Starred : Type 0
 Starred = map (λ (e : Example). e .got) table ≡ map (λ (e : Example). e .said) table
 
 pub starred : Starred
-unfolding table minZ maxZ min4Z max4Z eqZ onEnds withinOf meetOf joinOf hullOf belowOf aboveOf eitherPartOf uncutOf computedOf negateOf operateOf numberOf unless orElse firstBad allBelow someBelow refuse andThen sharesOf startsOf pointsOf nodesOf fourBy fourOf firstIn laterOf lastIn firstOf taskOf operationOf comparisonOf kept shapeBy shapeFrom pointBy pointFrom arithBy condBy arithF arithAt condAt nodeFieldsOf pointFieldsOf fitsOf refOf refsBelow countOf usesOf sizesStage partsStage alarmIf toldOf lists valueOf entriesOf intervalsOf headsFrom lowsFrom proposalLength heldWordOf heldOf headOf lowsOf highsOf rowAt entryLow entryHigh rowWithinOf assigned writtenOf outcomeIf outcomesBy outcomesOf allOutcomes rule8 heldInRange headInRange rule9 rule10 holdsStart startPoint rule11 rule12 rule13 files filed writes rule14 takes disturbs rule15 rests restPoint restEntry rule16 alarmsBy raised pairIf pairsOf alarmWords layoutStage rulesStage roomStage stagesOf verdictBy checkOf
+unfolding table minZ maxZ min4Z max4Z eqZ onEnds withinOf meetOf joinOf hullOf belowOf aboveOf eitherPartOf uncutOf computedOf negateOf operateOf numberOf unless orElse firstBad allBelow someBelow refuse andThen sharesOf startsOf pointsOf nodesOf fourBy fourOf firstIn laterOf lastIn firstOf taskOf operationOf comparisonOf kept shapeBy shapeFrom pointBy pointFrom arithBy condBy arithF arithAt condAt nodeFieldsOf pointFieldsOf fitsOf refOf refsBelow countOf usesOf sizesStage partsStage alarmIf toldOf lists valueOf entriesOf intervalsOf headsFrom lowsFrom proposalLength heldWordOf heldOf headOf lowsOf highsOf rowAt entryLow entryHigh rowWithinOf assigned writtenOf outcomeIf outcomesBy outcomesOf allOutcomes rule8 heldInRange headInRange rule9 beforeOf rule10 holdsStart startPoint rule11 locksFit rowsFit rule12 rule13 files filed writes rule14 takes disturbs undisturbed rule15 rests restPoint restEntry rule16 alarmsBy alarmsIf alarmsAt firstBadIn layoutStage wordsStage startStage outcomeStage sharedStage readyOf examinedOf raised pairIf pairsOf alarmWords roomStage stagesOf verdictBy checkOf
 starred = refl

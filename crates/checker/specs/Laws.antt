@@ -13,8 +13,8 @@ use Rattle.table.specs.Layout.{sizesOf}
 use Rattle.table.specs.Validate.{validateOf}
 use Rattle.analysis.specs.Laws.{IsKind}
 use Rattle.checker.specs.declared.Verdict.the-variants.{Accepted, Refused}
-use Rattle.checker.specs.Proposal.{entriesOf, intervalsOf, lowsFrom, proposalLength}
-use Rattle.checker.specs.Rules.{rule8, rule9, rule10, rule11, rule12, rule13, rule14, rule15, rule16}
+use Rattle.rules.specs.Proposal.{entriesOf, intervalsOf, lowsFrom, proposalLength}
+use Rattle.rules.specs.Rules.{rule8, rule9, rule10, rule11, rule12, rule13, rule14, rule15, rule16}
 use Rattle.checker.specs.AlarmList.{raised, alarmWords}
 use Rattle.checker.specs.Check.{checkOf}
 

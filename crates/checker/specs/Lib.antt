@@ -1,7 +1,3 @@
-pub mod Held
-pub mod Proposal
-pub mod Outcomes
-pub mod Rules
 pub mod AlarmList
 pub mod Check
 pub mod Laws

@@ -32,7 +32,7 @@ module _ (shares : List ℤ) where
   share-rise u e = omega (arith, number-positive (wordOf shares u) e)
 
   -- first points never fall, whatever the shares are
-  first-le : (u k : ℕ) → u ≤ k → firstIn shares u ≤ firstIn shares k
+  pub first-le : (u k : ℕ) → u ≤ k → firstIn shares u ≤ firstIn shares k
   unfolding firstIn
   first-le u zero l = let is : u ≡ 0 = omega arith in rw is (omega arith)
   first-le u (suc k) l = ⊎-elim (λ e. rw e (omega arith)) (λ lt. omega (arith, first-le u k (le-of-suc-le-suc lt))) (eq-or-lt-of-le l)

@@ -18,9 +18,9 @@ use Rattle.table.specs.declared.Point.{Point}
 use Rattle.table.specs.declared.Point.the-variants.{End, Assign, Test, Lock, Unlock}
 use Rattle.analysis.specs.declared.Row.{Row}
 use Rattle.analysis.specs.Rows.{rangeOf}
-use Rattle.checker.specs.Held.{hasOf, disjointOf}
-use Rattle.checker.specs.Proposal.{entriesOf, headsFrom, lowsFrom, heldWordOf, heldOf, reachedOf, headOf, lowsOf, highsOf, rowAt, restAt, entryLow, entryHigh}
-use Rattle.checker.specs.Outcomes.{Outcome, rowWithinOf, writtenOf, outcomesOf}
+use Rattle.rules.specs.Held.{hasOf, disjointOf}
+use Rattle.rules.specs.Proposal.{entriesOf, headsFrom, lowsFrom, heldWordOf, heldOf, reachedOf, headOf, lowsOf, highsOf, rowAt, restAt, entryLow, entryHigh}
+use Rattle.rules.specs.Outcomes.{Outcome, rowWithinOf, writtenOf, outcomesOf}
 
 -- the word is -1
 abbrev pub minusOne : ℤ → Bool
@@ -71,12 +71,13 @@ rule9 t w i =
 abbrev pub above : ℕ → ℕ → Bool → Bool
 above a b next = ltb a b || (eqb a b && next)
 
+-- the head of entry i is before (task u, set s, variable v)
+unfoldable pub beforeOf : List ℤ → List ℤ → ℕ → ℕ → ℕ → ℕ → Bool
+beforeOf t w i u s v = above (headOf t w i 0) u (above (headOf t w i 1) s (ltb (headOf t w i 2) v))
+
 unfoldable pub rule10 : List ℤ → List ℤ → ℕ → Bool
 rule10 t w zero = true
-rule10 t w (suc i) =
-    above (headOf t w i 0) (headOf t w (suc i) 0)
-    (above (headOf t w i 1) (headOf t w (suc i) 1)
-    (ltb (headOf t w i 2) (headOf t w (suc i) 2)))
+rule10 t w (suc i) = beforeOf t w i (headOf t w (suc i) 0) (headOf t w (suc i) 1) (headOf t w (suc i) 2)
 
 -- ---- 11 start: 'a first point with held not 0, or starting values outside its row; else outside a rest row', points first, then mutexes
 unfoldable pub holdsStart : List ℤ → Row → Bool
@@ -96,11 +97,18 @@ rule11 t w place = cond (ltb place (sizesOf t .points)) (startPoint t w place) (
 abbrev pub heldFits : ℕ → ℕ → Bool
 heldFits brought target = eqb target brought
 
+-- 'an outcome whose target has another held word'; 'an outcome not within its target's row'
+unfoldable pub locksFit : List ℤ → List Outcome → Bool
+locksFit w l = allOutcomes (λ o. heldFits (o .held) (heldOf w (o .target))) l
+
+unfoldable pub rowsFit : List ℤ → List ℤ → List Outcome → Bool
+rowsFit t w l = allOutcomes (λ o. rowWithinOf (sizesOf t .variables) (o .row) (rowAt t w (o .target))) l
+
 unfoldable pub rule12 : List ℤ → List ℤ → ℕ → Bool
-rule12 t w p = implies (reachedOf w p) (allOutcomes (λ o. heldFits (o .held) (heldOf w (o .target))) (outcomesOf t w p))
+rule12 t w p = implies (reachedOf w p) (locksFit w (outcomesOf t w p))
 
 unfoldable pub rule13 : List ℤ → List ℤ → ℕ → Bool
-rule13 t w p = implies (reachedOf w p) (allOutcomes (λ o. rowWithinOf (sizesOf t .variables) (o .row) (rowAt t w (o .target))) (outcomesOf t w p))
+rule13 t w p = implies (reachedOf w p) (rowsFit t w (outcomesOf t w p))
 
 -- ---- 14 write: 'written interval without an entry for (task, held set, variable) holding it'
 unfoldable pub files : List ℤ → List ℤ → ℕ → ℕ → ℕ → Interval → ℕ → Bool
@@ -111,26 +119,31 @@ unfoldable pub filed : List ℤ → List ℤ → ℕ → ℕ → ℕ → Interva
 filed t w u s v None = true
 filed t w u s v (Between lo hi) = someBelow (files t w u s v (Between lo hi)) (entriesOf w)
 
-unfoldable pub writes : List ℤ → List ℤ → Point → ℕ → Bool
-writes t w End p = true
-writes t w (Assign v e q) p = filed t w (taskOf t p) (heldOf w p) v (writtenOf t e (rowAt t w p))
-writes t w (Test c y n) p = true
-writes t w (Lock m q) p = true
-writes t w (Unlock m q) p = true
+-- by what stands at the point p, its held set s and its row r
+unfoldable pub writes : List ℤ → List ℤ → Point → ℕ → ℕ → Row → Bool
+writes t w End p s r = true
+writes t w (Assign v e q) p s r = filed t w (taskOf t p) s v (writtenOf t e r)
+writes t w (Test c y n) p s r = true
+writes t w (Lock m q) p s r = true
+writes t w (Unlock m q) p s r = true
 
 unfoldable pub rule14 : List ℤ → List ℤ → ℕ → Bool
-rule14 t w p = implies (reachedOf w p) (writes t w (pointOf (pointsOf t) p) p)
+rule14 t w p = implies (reachedOf w p) (writes t w (pointOf (pointsOf t) p) p (heldOf w p) (rowAt t w p))
 
 -- ---- 15 disturb: 'a reached point whose row lacks an entry of another task with a disjoint held set'
 -- the row's interval holds the entry's
 unfoldable pub takes : List ℤ → List ℤ → Row → ℕ → Bool
 takes t w r i = withinOf (fromTo (entryLow t w i) (entryHigh t w i)) (rangeOf r (headOf t w i 2))
 
-unfoldable pub disturbs : List ℤ → List ℤ → ℕ → ℕ → Bool
-disturbs t w p i = not (eqb (headOf t w i 0) (taskOf t p)) && disjointOf (headOf t w i 1) (heldOf w p)
+-- entry i is of another task than u, with a held set disjoint from s
+unfoldable pub disturbs : List ℤ → List ℤ → ℕ → ℕ → ℕ → Bool
+disturbs t w u s i = not (eqb (headOf t w i 0) u) && disjointOf (headOf t w i 1) s
+
+unfoldable pub undisturbed : List ℤ → List ℤ → ℕ → ℕ → Bool
+undisturbed t w p i = implies (disturbs t w (taskOf t p) (heldOf w p) i) (takes t w (rowAt t w p) i)
 
 unfoldable pub rule15 : List ℤ → List ℤ → ℕ → Bool
-rule15 t w p = implies (reachedOf w p) (allBelow (λ i. implies (disturbs t w p i) (takes t w (rowAt t w p) i)) (entriesOf w))
+rule15 t w p = implies (reachedOf w p) (allBelow (undisturbed t w p) (entriesOf w))
 
 -- ---- 16 rest: 'an unlock outcome outside the mutex's rest row; else an entry without mutex m outside m's rest row', points first, then entries
 unfoldable pub rests : List ℤ → List ℤ → Point → ℕ → Bool

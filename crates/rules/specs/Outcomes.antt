@@ -18,8 +18,8 @@ use Rattle.table.specs.declared.Point.the-variants.{End, Assign, Test, Lock, Un
 use Rattle.analysis.specs.declared.Row.{Row}
 use Rattle.analysis.specs.Rows.{rowOf, rangeOf, ownOf, Maybe, none, some, rowIf, each}
 use Rattle.analysis.specs.Analysis.{valueOf, narrowOf}
-use Rattle.checker.specs.Held.{hasOf, withOf, withoutOf}
-use Rattle.checker.specs.Proposal.{heldOf, rowAt, restAt}
+use Rattle.rules.specs.Held.{hasOf, withOf, withoutOf}
+use Rattle.rules.specs.Proposal.{heldOf, rowAt, restAt}
 
 pub record Outcome : Type 0 where
   pub target : ℕ

@@ -1,0 +1,44 @@
+-- Rules 12, 13 and 14 at a point, and at the points of a range, together: one walk over the points settles all three.
+-- Assumes nothing.
+use Prim.Native.Nat.{ℕ}
+use mathlib.Core.Bool.{true}
+use mathlib.Core.List.{List}
+use lib.IntN.{ℤ}
+use Rattle.words.specs.declared.Found.{Found}
+use Rattle.words.specs.First.{orElse, unless}
+use Rattle.table.specs.declared.Point.{Point}
+use Rattle.analysis.specs.declared.Row.{Row}
+use Rattle.rules.specs.declared.Fits.{Fits}
+use Rattle.rules.specs.declared.Faults.{Faults}
+use Rattle.rules.specs.Outcomes.{Outcome, outcomesBy}
+use Rattle.rules.specs.Rules.{locksFit, rowsFit, writes, rule12, rule13, rule14}
+use Rattle.rules.specs.Examine.{places, firstBadIn}
+
+-- whether outcomes keep to rules 12 and 13
+abbrev pub sideOf : List ℤ → List ℤ → List Outcome → Fits
+sideOf t w l = record { locks = locksFit w l; flow = rowsFit t w l; write = true }
+
+-- by what stands at the reached point p, its held set s and its row r
+unfoldable pub fitsBy : List ℤ → List ℤ → Point → ℕ → ℕ → Row → Fits
+fitsBy t w x p s r = record { locks = locksFit w (outcomesBy t w x s r); flow = rowsFit t w (outcomesBy t w x s r); write = writes t w x p s r }
+
+unfoldable pub fitsAt : List ℤ → List ℤ → ℕ → Fits
+fitsAt t w p = record { locks = rule12 t w p; flow = rule13 t w p; write = rule14 t w p }
+
+-- the smallest places, one point more
+unfoldable pub faultOr : Faults → Fits → ℕ → Faults
+faultOr f x p =
+    record {
+      locks = orElse (f .locks) (unless (x .locks) p);
+      flow = orElse (f .flow) (unless (x .flow) p);
+      write = orElse (f .write) (unless (x .write) p);
+    }
+
+-- the smallest places from one point on and below another
+unfoldable pub faultsOf : List ℤ → List ℤ → ℕ → ℕ → Faults
+faultsOf t w from to =
+    record {
+      locks = firstBadIn (rule12 t w) (places from to);
+      flow = firstBadIn (rule13 t w) (places from to);
+      write = firstBadIn (rule14 t w) (places from to);
+    }

@@ -1,0 +1,9 @@
+pub mod HeldLaws
+pub mod RowLaws
+pub mod BringsLaws
+pub mod RuleLaws
+pub mod ErrorLaws
+pub mod Invariant
+pub mod StepLaws
+pub mod Whole
+pub mod ShownLaws

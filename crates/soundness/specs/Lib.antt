@@ -1,0 +1,3 @@
+pub mod Safe
+pub mod Claim
+pub mod Shown
