@@ -1,130 +1,12 @@
 #!/usr/bin/env python3
 """Runs target/bin/analysis_test on trees and rows and compares what it prints with what document 01 says of them: cases whose answers are
 written out here (the document's own examples, one variable on both sides, none in every place, two levels of both, either and not, a
-choice under a condition under a choice, the longest chain), and random ones, for which `line` below is an independent reading of the rules."""
-import operator, random, struct, subprocess, sys
+choice under a condition under a choice, the longest chain), and random ones, for which tests/reading.py is an independent reading of the rules."""
+import random, struct, subprocess, sys
+from reading import MAX, MIN, decision, flat, narrow, value
 
 PROGRAM = sys.argv[1]
-MIN, MAX = -2147483648, 2147483647
 MODES = ["value", "decision", "narrowed no", "narrowed yes"]
-sys.setrecursionlimit(10000)
-
-
-# ---- the rules, read once more. An interval is a pair of ends or None, a row a list of pairs, one a variable, in which low > high is none
-def taken(low, high):
-    return None if low > high else (low, high)
-
-
-def quotient(a, b):
-    return abs(a) // abs(b) * (1 if (a < 0) == (b < 0) else -1)
-
-
-EXACT = {4: operator.add, 5: operator.sub, 6: operator.mul, 7: quotient}
-
-
-def operation(kind, sides):
-    """What the operation gives, and the kinds of its alarms."""
-    if None in sides:
-        return None, []
-    if kind == 3:
-        results = [-x for x in sides[0]]
-    else:
-        parts = [sides[1]]
-        if kind == 7:
-            c, d = sides[1]
-            parts = [p for p in (taken(c, min(d, -1)), taken(max(c, 1), d)) if p]
-        results = [EXACT[kind](x, y) for x in sides[0] for p in parts for y in p]
-    zero = [2] if kind == 7 and sides[1][0] <= 0 <= sides[1][1] else []
-    if not results:
-        return None, zero
-    low, high = min(results), max(results)
-    return taken(max(low, MIN), min(high, MAX)), ([1] if low < MIN or high > MAX else []) + zero
-
-
-def value(nodes, n, row):
-    """The interval of an arithmetic node, and its alarms."""
-    kind, a, b, c = nodes[n]
-    if kind == 0:
-        return (a, a), set()
-    if kind == 1:
-        return (a, b), set()
-    if kind == 2:
-        return taken(*row[a]), set()
-    if kind == 8:
-        possible, alarms = decision(nodes, a, row)
-        branches = [value(nodes, child, row) for truth, child in ((True, b), (False, c)) if truth in possible]
-        left = [s for s, _ in branches if s]
-        joined = (min(s[0] for s in left), max(s[1] for s in left)) if left else None
-        return joined, alarms.union(*(m for _, m in branches))
-    operands = [value(nodes, child, row) for child in ((a,) if kind == 3 else (a, b))]
-    s, kinds = operation(kind, [s for s, _ in operands])
-    return s, {(n, k) for k in kinds}.union(*(m for _, m in operands))
-
-
-def compared(kind, x, y):
-    if x is None or y is None:
-        return set()
-    (a, b), (c, d) = x, y
-    if kind == 16:
-        able = a < d, b >= c
-    elif kind == 17:
-        able = a <= d, b > c
-    else:
-        able = max(a, c) <= min(b, d), not a == b == c == d
-        if kind == 19:
-            able = able[1], able[0]
-    return {truth for truth, can in zip((True, False), able) if can}
-
-
-def decision(nodes, n, row):
-    """Which of true and false a condition node can be, and its alarms."""
-    kind, a, b, _ = nodes[n]
-    if kind <= 19:
-        (x, m), (y, o) = value(nodes, a, row), value(nodes, b, row)
-        return compared(kind, x, y), m | o
-    p, m = decision(nodes, a, row)
-    if kind == 22:
-        return {not t for t in p}, m
-    q, o = decision(nodes, b, row)
-    return {(t and u) if kind == 20 else (t or u) for t in p for u in q}, m | o
-
-
-def cut(kind, x, y):
-    """What the comparison leaves of its sides; both from the ends before."""
-    (a, b), (c, d) = x, y
-    if kind == 19:
-        return [taken(s[0] + (o == (s[0], s[0])), s[1] - (o == (s[1], s[1]))) for s, o in ((x, y), (y, x))]
-    if kind == 18:
-        return [taken(max(a, c), min(b, d))] * 2
-    past = 1 if kind == 16 else 0
-    return [taken(a, min(b, d - past)), taken(max(c, a + past), d)]
-
-
-def narrow(nodes, n, wanted, row):
-    """The row that is left, or None."""
-    kind, a, b, _ = nodes[n]
-    if kind == 22:
-        return narrow(nodes, a, not wanted, row)
-    if kind >= 20:
-        if (kind == 20) == wanted:  # both of the conditions, or of the opposites
-            row = narrow(nodes, a, wanted, row)
-            return row and narrow(nodes, b, wanted, row)
-        ways = [w for w in (narrow(nodes, child, wanted, row) for child in (a, b)) if w]
-        return [(min(s[0] for s in v), max(s[1] for s in v)) for v in zip(*ways)] or None
-    if not wanted:
-        kind, a, b = {16: (17, b, a), 17: (16, b, a), 18: (19, a, b), 19: (18, a, b)}[kind]
-    sides = [value(nodes, child, row)[0] for child in (a, b)]
-    left = [None] if None in sides else cut(kind, *sides)
-    if None in left:
-        return None
-    known = list(row)
-    for child, s in zip((a, b), left):
-        if nodes[child][0] == 2:
-            v = nodes[child][1]
-            known[v] = taken(max(known[v][0], s[0]), min(known[v][1], s[1]))
-            if known[v] is None:
-                return None
-    return known
 
 
 def line(mode, node, nodes, row):
@@ -136,13 +18,7 @@ def line(mode, node, nodes, row):
     return said + "".join(" alarm %d %d" % m for m in sorted(alarms))
 
 
-# ---- cases with their answers. A tree is a kind and its fields; its nodes are numbered children first, from left to right
-def flat(tree, nodes):
-    fields = [flat(f, nodes) if isinstance(f, tuple) else f for f in tree[1:]]
-    nodes.append(([tree[0]] + fields + [0, 0, 0])[:4])
-    return len(nodes) - 1
-
-
+# ---- cases with their answers
 CASES = []
 
 

@@ -1,73 +1,15 @@
 #!/usr/bin/env python3
 """Runs target/bin/table_test on tables and compares what it prints with what document 01 says: its own examples, tables that break
 each of refusals 1 to 6 at a first, a middle and a last place, the largest table, every table of tests/vectors, and tables with damaged
-words, for which `refusal` below is an independent reading of the rules."""
+words, for which `refusal` of tests/reading.py is an independent reading of the rules."""
 import os, random, struct, subprocess, sys
+from reading import LIMITS, refusal, table_words
 
 PROGRAM = sys.argv[1]
 HERE = os.path.dirname(os.path.abspath(__file__))
 
 
-# ---- the rules, read once more
-def sort(kind):
-    return "arithmetic" if 0 <= kind <= 8 else "condition" if 16 <= kind <= 22 else None
-
-
-NODE = {0: "any none none", 1: "any upper none", 2: "variable none none", 3: "arithmetic none none", 8: "condition arithmetic arithmetic", 22: "condition none none"}
-NODE.update({k: "arithmetic arithmetic none" for k in (4, 5, 6, 7, 16, 17, 18, 19)})
-NODE.update({k: "condition condition none" for k in (20, 21)})
-POINT = {0: "none none none", 1: "variable arithmetic target", 2: "condition target target", 3: "mutex target none", 4: "mutex target none"}
-LIMITS = [(1, 8), (1, 16), (0, 8), (1, 256), (0, 1024)]
-
-
-def refusal(t):
-    if len(t) < 5:
-        return (1, len(t))
-    for k, (lo, hi) in enumerate(LIMITS):
-        if not lo <= t[k] <= hi:
-            return (2, k)
-    tasks, variables, mutexes, points, nodes = t[:5]
-    if len(t) != 5 + tasks + variables + 4 * (points + nodes):
-        return (1, len(t))
-    shares = t[5 : 5 + tasks]
-    for u, s in enumerate(shares):
-        if s < 1:
-            return (3, u)
-    if sum(shares) != points:
-        return (3, tasks)
-    base = 5 + tasks + variables
-    owner = [u for u, s in enumerate(shares) for _ in range(s)]
-    point = [t[base + 4 * p : base + 4 * p + 4] for p in range(points)]
-    base += 4 * points
-    node = [t[base + 4 * n : base + 4 * n + 4] for n in range(nodes)]
-    used = [0] * nodes
-
-    def fits(want, w, below, task, first):
-        if want in ("arithmetic", "condition"):
-            return 0 <= w < below and sort(node[w][0]) == want
-        return {"any": True, "none": w == 0, "upper": first <= w, "variable": 0 <= w < variables, "mutex": 0 <= w < mutexes, "target": 0 <= w < points and owner[w] == task}[want]
-
-    for rule, rows, table in ((4, node, NODE), (5, point, POINT)):
-        for i, (kind, *fields) in enumerate(rows):
-            wants = table.get(kind, "").split()
-            below = i if rule == 4 else nodes
-            task = None if rule == 4 else owner[i]
-            if not wants or not all(fits(want, w, below, task, fields[0]) for want, w in zip(wants, fields)):
-                return (rule, i)
-            for want, w in zip(wants, fields):
-                if want in ("arithmetic", "condition"):
-                    used[w] += 1
-    for n in range(nodes):
-        if used[n] != 1:
-            return (6, n)
-    return None
-
-
 # ---- tables
-def table(shares, starts, mutexes, points, nodes):
-    return [len(shares), len(starts), mutexes, len(points), len(nodes)] + shares + starts + sum(points, []) + sum(nodes, [])
-
-
 SHARES, STARTS, MUTEXES = [3, 4, 2], [0, -5, 7], 2
 NODES = [
     [0, 9, 0, 0],  # 0 constant
@@ -96,7 +38,7 @@ POINTS = [
 
 
 def base():
-    return table(SHARES, STARTS, MUTEXES, [list(p) for p in POINTS], [list(n) for n in NODES])
+    return table_words(SHARES, STARTS, MUTEXES, [list(p) for p in POINTS], [list(n) for n in NODES])
 
 
 def changed(shares=None, node=None, point=None):
@@ -107,7 +49,7 @@ def changed(shares=None, node=None, point=None):
         n[node[0]] = node[1]
     if point:
         p[point[0]] = point[1]
-    return table(s, STARTS, MUTEXES, p, n)
+    return table_words(s, STARTS, MUTEXES, p, n)
 
 
 def largest():
@@ -117,7 +59,7 @@ def largest():
         first = 4 * p
         nodes += [[2, p % 16, 0, 0], [1, -p, p, 0], [6, first, first + 1, 0], [3, first + 2, 0, 0]]
         points.append([1, p % 16, first + 3, p - p % 32])
-    return table([32] * 8, list(range(16)), 8, points, nodes)
+    return table_words([32] * 8, list(range(16)), 8, points, nodes)
 
 
 BARE = [2, 1, 0, 3, 1, 2, 1, 0, 1, 0, 0, 1, 0, 0, 0, 0, 0, 0, 0, 0, 0, 5, 0, 0]

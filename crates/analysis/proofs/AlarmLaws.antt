@@ -12,7 +12,7 @@ use lib.Dec.{eqb}
 use lib.ListN.{length, set, getD, replicate, length-set, length-replicate, getD-replicate}
 use lib.Seq.{getD-set-same, getD-set-other}
 use Rattle.interval.specs.declared.Computed.{Computed}
-use Rattle.words.proofs.Bools.{clash, and-true, and-left, and-right, or-left, or-right}
+use Rattle.words.proofs.Bools.{clash, and-true, and-left, and-right, or-left, or-right, or-cases}
 use Rattle.analysis.specs.declared.Row.{Row}
 use Rattle.analysis.specs.declared.Alarm.{Alarm}
 use Rattle.analysis.specs.Rows.{Maybe, none, some}
@@ -53,10 +53,6 @@ unfolding toldOf
 zero-listed n o e = listed-right n 2 (alarmIf (o .overflow) n 1) (alarmIf (o .zero) n 2) (rw e (alarmIf-listed n 2))
 
 -- ---- their kinds
-or-cases : {X : Type 0} (s t : Bool) → s || t ≡ true → (s ≡ true → X) → (t ≡ true → X) → X
-or-cases true t e f g = f refl
-or-cases false t e f g = g e
-
 pub empty-kinds : Kinds []
 unfolding lists
 empty-kinds = record { kind = λ n k e. clash (sym e) }

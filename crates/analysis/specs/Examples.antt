@@ -35,11 +35,11 @@ abbrev example : Answer → Answer → Example
 example g s = record { got = g; said = s }
 
 -- one variable
-abbrev row : ℤ → ℤ → Row
+abbrev pub row : ℤ → ℤ → Row
 row lo hi = rowOf (lo ∷ []) (hi ∷ [])
 
 -- v < v
-abbrev less : List ℤ
+abbrev pub less : List ℤ
 less =
     pos 2 ∷ pos 0 ∷ pos 0 ∷ pos 0
     ∷ pos 2 ∷ pos 0 ∷ pos 0 ∷ pos 0
@@ -55,7 +55,7 @@ ratio =
     ∷ []
 
 -- v = 0 ? 0 : 10 / v
-abbrev guarded : List ℤ
+abbrev pub guarded : List ℤ
 guarded =
     pos 2 ∷ pos 0 ∷ pos 0 ∷ pos 0
     ∷ pos 0 ∷ pos 0 ∷ pos 0 ∷ pos 0

@@ -1,3 +1,6 @@
 pub mod ListLaws
+pub mod BufferLaws
+pub mod MarkLaws
+pub mod CheckLaws
 pub mod AcceptLaws
 pub mod Laws

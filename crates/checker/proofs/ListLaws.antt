@@ -12,9 +12,9 @@ use lib.Dec.{eqb, ltb}
 use lib.IntN.{ℤ}
 use lib.ListN.{length}
 use Rattle.words.specs.Words.{numberOf}
-use Rattle.words.proofs.Bools.{clash, and-true, and-left, and-right, and-false, or-left, or-right}
+use Rattle.words.proofs.Bools.{clash, and-true, and-left, and-right, and-false, or-left, or-right, or-cases}
 use Rattle.analysis.specs.Laws.{IsKind}
-use Rattle.checker.specs.AlarmList.{pairIf, pairsOf}
+use Rattle.checker.specs.AlarmList.{pairIf, pairsAt, pairsOf}
 use Rattle.checker.specs.Laws.{onList, risingFrom}
 
 -- ---- lists of whole pairs
@@ -35,7 +35,7 @@ pairIf-paired true n k = tt
 pairIf-paired false n k = tt
 
 pairs-paired : (f : ℕ → ℕ → Bool) (n : ℕ) → Paired (pairsOf f n)
-unfolding Paired pairsOf
+unfolding Paired pairsAt pairsOf
 pairs-paired f zero = tt
 pairs-paired f (suc n) =
     append-paired (pairsOf f n) _ (pairs-paired f n)
@@ -66,7 +66,7 @@ on-if false m j n k = refl
 -- the pairs of one node more
 on-more : (f : ℕ → ℕ → Bool) (b n k : ℕ)
     → onList n k (pairsOf f (suc b)) ≡ onList n k (pairsOf f b) || ((f b 1 && (eqb b n && eqb 1 k)) || (f b 2 && (eqb b n && eqb 2 k)))
-unfolding pairsOf
+unfolding pairsAt pairsOf
 on-more f b n k =
     rw (
       on-append n k (pairsOf f b) (pairIf (f b 1) b 1 ++ pairIf (f b 2) b 2) (pairs-paired f b),
@@ -75,12 +75,8 @@ on-more f b n k =
       on-if (f b 2) b 2 n k,
     ) refl
 
-or-cases : {X : Type 0} (s t : Bool) → s || t ≡ true → (s ≡ true → X) → (t ≡ true → X) → X
-or-cases true t e f g = f refl
-or-cases false t e f g = g e
-
 pub on-below : (f : ℕ → ℕ → Bool) (b n k : ℕ) → onList n k (pairsOf f b) ≡ true → (n < b) × IsKind k
-unfolding onList pairsOf
+unfolding onList pairsAt pairsOf
 on-below f zero n k e = clash (sym e)
 on-below f (suc b) n k e =
     or-cases (onList n k (pairsOf f b)) _ (sym (on-more f b n k) ∙ e) (λ q. let h = on-below f b n k q in (omega (arith, h .0), h .1))
@@ -152,7 +148,7 @@ last-rising false true a b n l h = and-true (above a b n 2 l (λ e. let z = h e 
 last-rising false false a b n l h = refl
 
 pub pairs-rising : (f : ℕ → ℕ → Bool) (n : ℕ) → risingFrom 0 0 (pairsOf f n) ≡ true
-unfolding pairsOf risingFrom
+unfolding pairsAt pairsOf risingFrom
 pairs-rising f zero = refl
 pairs-rising f (suc n) =
     append-rising (pairsOf f n) (pairIf (f n 1) n 1 ++ pairIf (f n 2) n 2) 0 0 (pairs-paired f n)

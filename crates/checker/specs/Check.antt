@@ -39,14 +39,14 @@ unfoldable pub bufferOf : List ℤ → List ℤ → List ℤ → List ℤ
 bufferOf t w buffer = bufferBy (stagesOf t w (length buffer)) (alarmWords t w) buffer
 
 -- document 01's number, place and count for each case of the answer, 0 for what isn't given
-unfoldable pub refusalOf : Verdict → ℕ
-refusalOf (Accepted count) = 0
-refusalOf (Refused rule place) = rule
+unfoldable pub refusalNumber : Verdict → ℕ
+refusalNumber (Accepted count) = 0
+refusalNumber (Refused rule place) = rule
 
-unfoldable pub placeOf : Verdict → ℕ
-placeOf (Accepted count) = 0
-placeOf (Refused rule place) = place
+unfoldable pub refusalPlace : Verdict → ℕ
+refusalPlace (Accepted count) = 0
+refusalPlace (Refused rule place) = place
 
-unfoldable pub countOf : Verdict → ℕ
-countOf (Accepted count) = count
-countOf (Refused rule place) = 0
+unfoldable pub alarmCount : Verdict → ℕ
+alarmCount (Accepted count) = count
+alarmCount (Refused rule place) = 0

@@ -1,4 +1,7 @@
 // The check of a proposal against a table: refusals 1 to 17 in order, and the alarm list.
+pub mod check;
+mod list;
+
 ghost use Rattle.checker.specs.Laws.{Laws};
 ghost use Rattle.checker.specs.Examples.{Starred};
 

@@ -1,1 +1,14 @@
+pub mod HeldLaws
+pub mod ProposalLaws
+pub mod RowLaws
 pub mod PlaceLaws
+pub mod RangeLaws
+pub mod SomeLaws
+pub mod StartLaws
+pub mod HalvingLaws
+pub mod EntryLaws
+pub mod DisturbLaws
+pub mod RestLaws
+pub mod PointLaws
+pub mod PointsLaws
+pub mod ReadyLaws

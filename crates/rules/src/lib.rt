@@ -1,6 +1,19 @@
 // Refusals 7 to 16: a proposal's layout, held sets, the outcomes of points, and each rule with its smallest place.
 use words::Found;
 
+mod disturb;
+mod entry;
+pub mod examine;
+mod held;
+mod order;
+mod point;
+mod points;
+mod proposal;
+mod range;
+mod rest;
+mod rows;
+mod start;
+
 // The places that a search goes over: from one on, and below another.
 pub struct Places {
     pub from: usize,

@@ -32,6 +32,10 @@ pub or-right : (a : Bool) {b : Bool} → b ≡ true → a || b ≡ true
 or-right true e = refl
 or-right false e = e
 
+pub or-cases : {X : Type 0} (a b : Bool) → a || b ≡ true → (a ≡ true → X) → (b ≡ true → X) → X
+or-cases true b e f g = f refl
+or-cases false b e f g = g e
+
 -- ---- a test that a call computed, and the branch on it
 pub holds : {r b : Bool} → r ≡ b → r ≡ true → b ≡ true
 holds e q = sym e ∙ q

@@ -1,0 +1,95 @@
+-- What stages that passed tell the stages after them: `Bounded` after 8, `Ready` after 11; what a point of a table that passed names; that the places
+-- of the whole table are ranges of numbers that fit; and which marks refusals 1 to 11 leave.
+-- Assumes nothing.
+use Prim.Native.Nat.{ℕ, _<_, _≤_}
+use mathlib.Core.Path.{_≡_}
+use mathlib.Core.Bool.{true}
+use mathlib.Core.List.{List}
+use native.Mathlib.Omega.{arith}
+use borrow.Author.Tests.{leb-true}
+use lib.Dec.{lit<}
+use lib.IntN.{ℤ}
+use Rattle.words.specs.declared.Found.the-variants.{Nothing}
+use Rattle.words.specs.declared.Stage.{Stage}
+use Rattle.words.specs.declared.Stage.the-variants.{Passed, Broken}
+use Rattle.words.specs.First.{firstBad}
+use Rattle.words.proofs.FirstLaws.{firstBad-none}
+use Rattle.words.proofs.StageLaws.{refuse-found, refuse-later, andThen-first, andThen-later}
+use Rattle.table.specs.Layout.{sizesOf, pointsOf}
+use Rattle.table.specs.Decode.{pointOf}
+use Rattle.table.specs.Validate.{validateOf}
+use Rattle.table.specs.Passes.{SameTask, FormedPoint, Passes}
+use Rattle.table.specs.declared.Point.{Point}
+use Rattle.table.proofs.PassLaws.{passes}
+use Rattle.analysis.specs.Alarms.{markedOf}
+use Rattle.rules.specs.declared.Scope.{Scope}
+use Rattle.rules.specs.declared.Places.{Places}
+use Rattle.rules.specs.Proposal.{entriesOf}
+use Rattle.rules.specs.Rules.{rule8, rule10}
+use Rattle.rules.specs.Alarms.{alarmsIn}
+use Rattle.rules.specs.Ready.{Bounded, Ready}
+use Rattle.rules.specs.Examine.{wholeOf, layoutStage, wordsStage, readyOf, marksBy, marksOf}
+
+-- ---- what the stages tell
+pub bounded : {t w : List ℤ} → Passes t → firstBad (rule8 t w) 4 ≡ Nothing → Bounded t w
+unfolding rule8
+bounded {t} {w} p e = record {
+  tasks = p .tasks .high;
+  variables = p .variables .high;
+  mutexes = p .mutexes .high;
+  points = p .points .high;
+  nodes = p .nodes .high;
+  entries = leb-true _ _ (firstBad-none (rule8 t w) 4 e 3 (lit< tt));
+}
+
+pub layout-bounded : {t w : List ℤ} → Passes t → layoutStage t w ≡ Passed → Bounded t w
+unfolding layoutStage
+layout-bounded p e = bounded p (refuse-found 8 _ _ (refuse-later 7 _ _ e))
+
+ordered : (t w : List ℤ) → wordsStage t w ≡ Passed → (i : ℕ) → i < entriesOf w → rule10 t w i ≡ true
+unfolding wordsStage
+ordered t w e = firstBad-none (rule10 t w) (entriesOf w) (refuse-found 10 _ _ (refuse-later 9 _ _ e))
+
+pub ready : (t w : List ℤ) → readyOf t w ≡ Passed → Ready t w
+unfolding readyOf
+ready t w e =
+    let table = passes t (andThen-first (validateOf t) _ e) in
+    let later = andThen-later (validateOf t) _ e in
+    let sized = andThen-first (layoutStage t w) _ later in
+    let read = andThen-first (wordsStage t w) _ (andThen-later (layoutStage t w) _ later) in
+    record { bounded = layout-bounded table sized; passes = table; order = ordered t w read }
+
+-- ---- a point of a table that passed: z is what the code reads there
+module _ {t : List ℤ} (table : Passes t) where
+  pub formed : (p : ℕ) {ps : List ℤ} {x z : Point} → p < sizesOf t .points → ps ≡ pointsOf t → z ≡ pointOf ps p → z ≡ x → FormedPoint t p x
+  formed p l e f g = rw (← e, ← f, g) at (table .point p l)
+
+  pub target-fits : {p q : ℕ} → SameTask t p q → q ≤ 4294967295
+  target-fits h = omega (arith, h .point, table .points .high)
+
+  pub mutex-fits : {m : ℕ} → m < sizesOf t .mutexes → m < 8
+  mutex-fits h = omega (arith, table .mutexes .high)
+
+-- ---- places: the range is one, and its numbers fit
+abbrev Fit : Places → Type 0
+Fit r = (r .from ≤ r .to) × (r .to ≤ 4294967295)
+
+module _ {t w : List ℤ} {s : Scope} (e : s ≡ wholeOf t w) (b : Bounded t w) where
+  pub points-fit : Fit (s .points)
+  points-fit = rw e (omega arith, omega (arith, b .points))
+
+  pub rests-fit : Fit (s .rests)
+  rests-fit = rw e (omega arith, omega (arith, b .points, b .mutexes))
+
+  pub entries-fit : Fit (s .entries)
+  entries-fit = rw e (omega arith, omega (arith, b .points, b .entries))
+
+-- ---- marks
+pub marks-kept : (t w : List ℤ) (m : List ℕ) {v : Stage} {rule p : ℕ} → v ≡ readyOf t w → v ≡ Broken rule p → m ≡ marksOf t w m
+unfolding marksOf marksBy
+marks-kept t w m e f = rw (← e, f)
+
+pub marks-made : (t w : List ℤ) (m : List ℕ) {v : Stage} {m′ : List ℕ} → v ≡ readyOf t w → v ≡ Passed
+    → m′ ≡ markedOf m (alarmsIn t w 0 (sizesOf t .points)) → m′ ≡ marksOf t w m
+unfolding marksOf marksBy
+marks-made t w m e f g = rw (← e, f) g

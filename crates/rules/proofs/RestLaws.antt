@@ -1,0 +1,66 @@
+-- Refusal 16 by its tests.
+-- Assumes nothing.
+use Prim.Native.Nat.{ℕ, _-_, _<_, _≤_}
+use mathlib.Core.Path.{_≡_}
+use mathlib.Core.Bool.{Bool, true, false, not}
+use mathlib.Core.List.{List}
+use native.Mathlib.Omega.{arith}
+use borrow.Author.Tests.{lt-ltb, le-ltb}
+use lib.IntN.{ℤ}
+use Rattle.table.specs.declared.Point.{Point}
+use Rattle.table.specs.declared.Point.the-variants.{Unlock}
+use Rattle.table.specs.Layout.{sizesOf, pointsOf}
+use Rattle.table.specs.Decode.{pointOf}
+use Rattle.table.specs.Passes.{Passes, FormedPoint}
+use Rattle.rules.specs.Held.{hasOf}
+use Rattle.rules.specs.Proposal.{heldOf, reachedOf, headOf, rowAt, restAt}
+use Rattle.rules.specs.Outcomes.{rowWithinOf}
+use Rattle.rules.specs.Rules.{implies, takes, rests, restPoint, restEntry, rule16}
+
+-- the mutex of an unlock is one of the table's, which are at most 8
+unlock-formed : (t : List ℤ) (p : ℕ) (x : Point) {m q : ℕ} → x ≡ Unlock m q → FormedPoint t p x → m < sizesOf t .mutexes
+unfolding FormedPoint
+unlock-formed t p x e f = (rw e at f) .0
+
+pub unlock-below : (t : List ℤ) (p : ℕ) {m q : ℕ} → Passes t → p < sizesOf t .points → pointOf (pointsOf t) p ≡ Unlock m q → m < 8
+unlock-below t p passes l e = omega (arith, passes .mutexes .high, unlock-formed t p (pointOf (pointsOf t) p) e (passes .point p l))
+
+module _ (t w : List ℤ) (p : ℕ) where
+  -- ---- at a point: it isn't reached, or what stands there is tested
+  pub not-reached : reachedOf w p ≡ false → true ≡ restPoint t w p
+  unfolding restPoint
+  not-reached e = rw e
+
+  pub reached : {b : Bool} (x : Point) → reachedOf w p ≡ true → pointOf (pointsOf t) p ≡ x → b ≡ rests t w x p → b ≡ restPoint t w p
+  unfolding restPoint
+  reached x e is q = rw (e, is) q
+
+  -- ---- at an unlock: the mutex isn't held, or the row lies within its rest row
+  pub not-held : (m q : ℕ) → hasOf (heldOf w p) m ≡ false → true ≡ rests t w (Unlock m q) p
+  unfolding rests
+  not-held m q e = rw e
+
+  pub held : {b : Bool} (m q : ℕ) → hasOf (heldOf w p) m ≡ true → b ≡ rowWithinOf (sizesOf t .variables) (rowAt t w p) (restAt t w m)
+      → b ≡ rests t w (Unlock m q) p
+  unfolding rests
+  held m q e h = rw e h
+
+  -- ---- at a place: a point, or an entry
+  pub rest-at-point : {b : Bool} → p < sizesOf t .points → b ≡ restPoint t w p → b ≡ rule16 t w p
+  unfolding rule16
+  rest-at-point l q = rw (lt-ltb p (sizesOf t .points) l) q
+
+  pub rest-at-entry : {b : Bool} → sizesOf t .points ≤ p → b ≡ restEntry t w (p - sizesOf t .points) → b ≡ rule16 t w p
+  unfolding rule16
+  rest-at-entry l q = rw (le-ltb p (sizesOf t .points) l) q
+
+-- ---- at an entry and a mutex: the entry has the mutex, or lies within its rest row
+abbrev pub entryRests : List ℤ → List ℤ → ℕ → ℕ → Bool
+entryRests t w i m = implies (not (hasOf (headOf t w i 1) m)) (takes t w (restAt t w m) i)
+
+module _ (t w : List ℤ) (i m : ℕ) where
+  pub has-mutex : hasOf (headOf t w i 1) m ≡ true → true ≡ entryRests t w i m
+  has-mutex e = rw e
+
+  pub lacks-mutex : {b : Bool} → hasOf (headOf t w i 1) m ≡ false → b ≡ takes t w (restAt t w m) i → b ≡ entryRests t w i m
+  lacks-mutex e q = rw e q

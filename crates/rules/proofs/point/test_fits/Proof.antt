@@ -1,0 +1,34 @@
+-- `rules::point::test_fits` meets its contract: the walk of the condition gives the marks, and each narrowing the outcome of its side.
+-- Assumes nothing.
+use borrow.Author.Needs.{needs}
+use Rattle.rules.specs.Alarms.{alarmsBy}
+use Rattle.rules.proofs.PointLaws.{test-fits}
+use Rattle.rules.proofs.point.test_fits.Statement.{statement}
+use Rattle.rules.proofs.point.test_fits.Tie as tie
+
+returns : tie.Need-returns
+unfolding alarmsBy
+returns c =
+    let other = c .before .before .before .before in
+    let taken = other .before .before in
+    let own = taken .before .before in
+    let walk = own .before .before .before in
+    let nodes = walk .before .before .node-words .ensures in (
+      test-fits _ _ _ _ _ _ _ _ nodes (own .own .ensures) (taken .before .narrow .ensures) (taken .side .ensures) (other .before .narrow2 .ensures)
+          (other .side2 .ensures),
+      rw nodes at (walk .decision .ensures .1),
+    )
+
+pub test-fits-spec : {M : Type 1} → statement M
+test-fits-spec =
+    tie.close
+    (tie.spec
+    (λ c κs. search needs)
+    (λ c κs. search needs)
+    (λ c κs. search needs)
+    (λ c κs. search needs)
+    (λ c κs. search needs)
+    (λ c κs. search needs)
+    (λ c κs. let pre = c .before .before .before .before .before .before .before .before .before .before .pre in (pre .0, pre .1 .1))
+    (λ c. search needs)
+    returns)

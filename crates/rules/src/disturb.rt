@@ -1,0 +1,84 @@
+// Refusal 15: a scan over points and, inside it, over entries that ends at the first pair that fails.
+use crate::Places;
+use crate::held::disjoint;
+use crate::proposal::entries;
+use crate::proposal::entry_range;
+use crate::proposal::head;
+use crate::proposal::held;
+use crate::proposal::is_reached;
+use crate::proposal::row_highs;
+use crate::proposal::row_lows;
+use analysis::rows::range;
+use interval::lattice::within;
+use table::layout::task_of;
+use words::Found;
+ghost use mathlib.Core.Path.{_≡_};
+ghost use mathlib.Core.Bool.{not};
+ghost use Prim.Native.Nat.{_≤_};
+ghost use Rattle.analysis.specs.Rows.{rowOf};
+ghost use Rattle.rules.specs.Rules.{implies, takes, disturbs, rule15};
+ghost use Rattle.rules.specs.Ready.{Bounded};
+ghost use Rattle.rules.specs.Examine.{firstBadIn};
+
+// Whether the row's interval holds entry i.
+pub(crate) fn is_taken<'a>(
+    t: &'a [i32],
+    w: &'a [i32],
+    lows: &'a [i32],
+    highs: &'a [i32],
+    i: usize,
+) -> bool
+    requires { ⌜ Bounded (now t) (now w) ⌝ }
+    requires { ⌜ i ≤ 4294967295 ⌝ }
+    ensures { λ r. ⌜ r ≡ takes (now (t .entry)) (now (w .entry)) (rowOf (now (lows .entry)) (now (highs .entry))) i ⌝ }
+{
+    within(entry_range(t, w, i), range(lows, highs, head(t, w, i, 2)))
+}
+
+// Whether entry i is of another task than u, with a held set disjoint from s, and outside the row.
+fn is_disturbed<'a>(
+    t: &'a [i32],
+    w: &'a [i32],
+    u: usize,
+    s: usize,
+    lows: &'a [i32],
+    highs: &'a [i32],
+    i: usize,
+) -> bool
+    requires { ⌜ Bounded (now t) (now w) ⌝ }
+    requires { ⌜ i ≤ 4294967295 ⌝ }
+    ensures { λ r. ⌜ r ≡ not (implies (disturbs (now (t .entry)) (now (w .entry)) u s i) (takes (now (t .entry)) (now (w .entry)) (rowOf (now (lows .entry)) (now (highs .entry))) i)) ⌝ }
+{
+    if head(t, w, i, 0) == u {
+        return false;
+    }
+    if !disjoint(head(t, w, i, 1), s) {
+        return false;
+    }
+    !is_taken(t, w, lows, highs, i)
+}
+
+pub(crate) fn first_disturbed<'a>(t: &'a [i32], w: &'a [i32], r: Places) -> Found
+    requires { ⌜ Bounded (now t) (now w) ⌝ }
+    requires { ⌜ (r .from ≤ r .to) × (r .to ≤ 4294967295) ⌝ }
+    ensures { λ x. ⌜ x ≡ firstBadIn (rule15 (now (t .entry)) (now (w .entry))) r ⌝ }
+{
+    let count = entries(w);
+    let mut found = Found::Nothing;
+    'pairs: for p in r.from..r.to {
+        let s = held(w, p);
+        if !is_reached(s) {
+            continue 'pairs;
+        }
+        let u = task_of(t, p);
+        let lows = row_lows(t, w, p);
+        let highs = row_highs(t, w, p);
+        for i in 0..count {
+            if is_disturbed(t, w, u, s, lows, highs, i) {
+                found = Found::At(p);
+                break 'pairs;
+            }
+        }
+    }
+    found
+}

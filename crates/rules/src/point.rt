@@ -1,0 +1,233 @@
+// Rules 12, 13 and 14 at a point, with the alarms of its expression marked in the same walk.
+use crate::Fits;
+use crate::entry::is_filed;
+use crate::held::has;
+use crate::held::with;
+use crate::held::without;
+use crate::proposal::held;
+use crate::proposal::is_reached;
+use crate::proposal::row_highs;
+use crate::proposal::row_lows;
+use crate::rows::meets;
+use crate::rows::met_within;
+use crate::rows::row_within;
+use crate::rows::written_within;
+use analysis::Narrowed;
+use analysis::evaluate::decision;
+use analysis::evaluate::value;
+use analysis::narrow::narrow;
+use analysis::rows::own;
+use interval::Interval;
+use table::Point;
+use table::decode::point_at;
+use table::layout::node_words;
+use table::layout::point_words;
+use table::layout::task_of;
+use words::number_at;
+ghost use mathlib.Core.Path.{_≡_};
+ghost use mathlib.Core.Bool.{true};
+ghost use Prim.Native.Nat.{_<_, _≤_};
+ghost use Rattle.table.specs.Layout.{sizesOf};
+ghost use Rattle.table.specs.declared.Point.the-variants.{Assign, Test, Lock, Unlock};
+ghost use Rattle.analysis.specs.Rows.{rowOf, asMaybe};
+ghost use Rattle.analysis.specs.Alarms.{markedOf};
+ghost use Rattle.rules.specs.Outcomes.{outcomeIf};
+ghost use Rattle.rules.specs.Alarms.{alarmsBy, alarmsAt};
+ghost use Rattle.rules.specs.Ready.{Bounded, Ready};
+ghost use Rattle.rules.specs.Points.{sideOf, fitsBy, fitsAt};
+
+// Where there is no outcome and nothing is written, nothing fails.
+fn no_outcome() -> Fits
+    ensures { λ r. ⌜ r ≡ record { locks = true; flow = true; write = true } ⌝ }
+{
+    Fits {
+        locks: true,
+        flow: true,
+        write: true,
+    }
+}
+
+// An assignment of the node e to v, going on at q: the expression is evaluated once, for its alarms and for what is written.
+fn assign_fits<'a, 'b>(
+    t: &'a [i32],
+    w: &'a [i32],
+    p: usize,
+    s: usize,
+    lows: &'a [i32],
+    highs: &'a [i32],
+    v: usize,
+    e: usize,
+    q: usize,
+    marks: &'b mut [u8],
+) -> Fits
+    requires { ⌜ Ready (now t) (now w) ⌝ }
+    requires { ⌜ q ≤ 4294967295 ⌝ }
+    ensures { λ r. ⌜ r ≡ fitsBy (now (t .entry)) (now (w .entry)) (Assign v e q) p s (rowOf (now (lows .entry)) (now (highs .entry))) ⌝ }
+    ensures { λ r. ⌜ now (marks .exit) ≡ markedOf (now (marks .entry)) (alarmsBy (now (t .entry)) (Assign v e q) (rowOf (now (lows .entry)) (now (highs .entry)))) ⌝ }
+{
+    let x = value(node_words(t), e, lows, highs, marks);
+    let Interval::Between(low, high) = x else {
+        return no_outcome();
+    };
+    Fits {
+        locks: held(w, q) == s,
+        flow: written_within(
+            lows,
+            highs,
+            v,
+            low,
+            high,
+            row_lows(t, w, q),
+            row_highs(t, w, q),
+            number_at(t, 1),
+        ),
+        write: is_filed(t, w, task_of(t, p), s, v, Interval::Between(low, high)),
+    }
+}
+
+// A side of a test that goes on at q with the held set s, by what narrowing left.
+fn side<'a>(t: &'a [i32], w: &'a [i32], s: usize, q: usize, n: Narrowed) -> Fits
+    requires { ⌜ Bounded (now t) (now w) ⌝ }
+    requires { ⌜ q ≤ 4294967295 ⌝ }
+    ensures { λ r. ⌜ r ≡ sideOf (now (t .entry)) (now (w .entry)) (outcomeIf (asMaybe n) s q) ⌝ }
+{
+    if !n.some {
+        return no_outcome();
+    }
+    let row = n.row;
+    Fits {
+        locks: held(w, q) == s,
+        flow: row_within(
+            &row.lows,
+            &row.highs,
+            row_lows(t, w, q),
+            row_highs(t, w, q),
+            number_at(t, 1),
+        ),
+        write: true,
+    }
+}
+
+// A test of the condition c, going on at yes or at no: the condition is evaluated once for its alarms, once for each side.
+fn test_fits<'a, 'b>(
+    t: &'a [i32],
+    w: &'a [i32],
+    p: usize,
+    s: usize,
+    lows: &'a [i32],
+    highs: &'a [i32],
+    c: usize,
+    y: usize,
+    n: usize,
+    marks: &'b mut [u8],
+) -> Fits
+    requires { ⌜ Bounded (now t) (now w) ⌝ }
+    requires { ⌜ (y ≤ 4294967295) × (n ≤ 4294967295) ⌝ }
+    ensures { λ r. ⌜ r ≡ fitsBy (now (t .entry)) (now (w .entry)) (Test c y n) p s (rowOf (now (lows .entry)) (now (highs .entry))) ⌝ }
+    ensures { λ r. ⌜ now (marks .exit) ≡ markedOf (now (marks .entry)) (alarmsBy (now (t .entry)) (Test c y n) (rowOf (now (lows .entry)) (now (highs .entry)))) ⌝ }
+{
+    let nodes = node_words(t);
+    decision(nodes, c, lows, highs, marks);
+    let row = own(lows, highs);
+    let taken = side(t, w, s, y, narrow(nodes, c, true, row));
+    let other = side(t, w, s, n, narrow(nodes, c, false, row));
+    Fits {
+        locks: taken.locks & other.locks,
+        flow: taken.flow & other.flow,
+        write: true,
+    }
+}
+
+// A lock of m, going on at q.
+fn lock_fits<'a>(
+    t: &'a [i32],
+    w: &'a [i32],
+    p: usize,
+    s: usize,
+    lows: &'a [i32],
+    highs: &'a [i32],
+    m: usize,
+    q: usize,
+) -> Fits
+    requires { ⌜ Bounded (now t) (now w) ⌝ }
+    requires { ⌜ (m < 8) × (q ≤ 4294967295) × (s ≤ 4294967295) ⌝ }
+    ensures { λ r. ⌜ r ≡ fitsBy (now (t .entry)) (now (w .entry)) (Lock m q) p s (rowOf (now (lows .entry)) (now (highs .entry))) ⌝ }
+{
+    if has(s, m) {
+        return no_outcome();
+    }
+    let variables = number_at(t, 1);
+    let rest = number_at(t, 3) + m;
+    let rest_lows = row_lows(t, w, rest);
+    let rest_highs = row_highs(t, w, rest);
+    if !meets(lows, highs, rest_lows, rest_highs, variables) {
+        return no_outcome();
+    }
+    Fits {
+        locks: held(w, q) == with(s, m),
+        flow: met_within(
+            lows,
+            highs,
+            rest_lows,
+            rest_highs,
+            row_lows(t, w, q),
+            row_highs(t, w, q),
+            variables,
+        ),
+        write: true,
+    }
+}
+
+// An unlock of m, going on at q.
+fn unlock_fits<'a>(
+    t: &'a [i32],
+    w: &'a [i32],
+    p: usize,
+    s: usize,
+    lows: &'a [i32],
+    highs: &'a [i32],
+    m: usize,
+    q: usize,
+) -> Fits
+    requires { ⌜ Bounded (now t) (now w) ⌝ }
+    requires { ⌜ (m < 8) × (q ≤ 4294967295) ⌝ }
+    ensures { λ r. ⌜ r ≡ fitsBy (now (t .entry)) (now (w .entry)) (Unlock m q) p s (rowOf (now (lows .entry)) (now (highs .entry))) ⌝ }
+{
+    if !has(s, m) {
+        return no_outcome();
+    }
+    Fits {
+        locks: held(w, q) == without(s, m),
+        flow: row_within(
+            lows,
+            highs,
+            row_lows(t, w, q),
+            row_highs(t, w, q),
+            number_at(t, 1),
+        ),
+        write: true,
+    }
+}
+
+// Rules 12, 13 and 14 at the point p; its alarms are marked if it is reached.
+pub(crate) fn point_fits<'a, 'b>(t: &'a [i32], w: &'a [i32], p: usize, marks: &'b mut [u8]) -> Fits
+    requires { ⌜ Ready (now t) (now w) ⌝ }
+    requires { ⌜ p < sizesOf (now t) .points ⌝ }
+    ensures { λ r. ⌜ r ≡ fitsAt (now (t .entry)) (now (w .entry)) p ⌝ }
+    ensures { λ r. ⌜ now (marks .exit) ≡ markedOf (now (marks .entry)) (alarmsAt (now (t .entry)) (now (w .entry)) p) ⌝ }
+{
+    let s = held(w, p);
+    if !is_reached(s) {
+        return no_outcome();
+    }
+    let lows = row_lows(t, w, p);
+    let highs = row_highs(t, w, p);
+    let x = point_at(point_words(t), p);
+    match x {
+        Point::End => no_outcome(),
+        Point::Assign(v, e, q) => assign_fits(t, w, p, s, lows, highs, v, e, q, marks),
+        Point::Test(c, y, n) => test_fits(t, w, p, s, lows, highs, c, y, n, marks),
+        Point::Lock(m, q) => lock_fits(t, w, p, s, lows, highs, m, q),
+        Point::Unlock(m, q) => unlock_fits(t, w, p, s, lows, highs, m, q),
+    }
+}

@@ -1,0 +1,5 @@
+pub mod EvaluationLaws
+pub mod EndLaws
+pub mod StepLaws
+pub mod RunLaws
+pub mod Laws

@@ -1,0 +1,44 @@
+// A whole run.
+use crate::Played;
+use crate::State;
+use table::validate::validate;
+use words::Stage;
+ghost use mathlib.Core.Path.{_≡_};
+ghost use Rattle.run.specs.Run.{lastOf, runOf};
+
+// The state after the whole schedule.
+fn play(table: &[i32], schedule: &[i32]) -> State
+    ensures { λ r. ⌜ r ≡ lastOf (now (table .entry)) (now (schedule .entry)) ⌝ }
+{
+    let mut s = State::start(table);
+    let mut at: usize = 0;
+    while at < schedule.len() {
+        let n = s.step(at, table, schedule);
+        s = n.state;
+        at = n.at;
+    }
+    s
+}
+
+// Plays the whole schedule and gives the last state. A table that refusals 1 to 6 refuse gives its refusal, and a state of zeros.
+pub fn run(table: &[i32], schedule: &[i32]) -> Played
+    ensures { λ r. ⌜ r ≡ runOf (now (table .entry)) (now (schedule .entry)) ⌝ }
+{
+    let stage = validate(table);
+    match stage {
+        Stage::Passed => {
+            let s = play(table, schedule);
+            Played {
+                stage: stage,
+                state: s,
+            }
+        }
+        Stage::Broken(_, _) => {
+            let s = State::blank();
+            Played {
+                stage: stage,
+                state: s,
+            }
+        }
+    }
+}
