@@ -1,11 +1,12 @@
 -- Refusal 15 by its tests.
 -- Assumes nothing.
-use Prim.Native.Nat.{ℕ}
-use mathlib.Core.Path.{_≡_}
+use Prim.Native.Nat.{ℕ, _+_, _*_}
+use mathlib.Core.Path.{_≡_, ap}
 use mathlib.Core.Bool.{Bool, true, false, not}
 use mathlib.Core.List.{List}
 use borrow.Author.Tests.{eq-eqb, ne-eqb}
 use lib.IntN.{ℤ}
+use Rattle.words.specs.Words.{numberAt}
 use Rattle.words.specs.First.{allBelow}
 use Rattle.table.specs.Layout.{taskOf}
 use Rattle.analysis.specs.declared.Row.{Row}
@@ -13,6 +14,7 @@ use Rattle.analysis.specs.Rows.{rowOf}
 use Rattle.rules.specs.Held.{disjointOf}
 use Rattle.rules.specs.Proposal.{entriesOf, heldOf, reachedOf, headOf, rowAt}
 use Rattle.rules.specs.Rules.{implies, takes, disturbs, undisturbed, rule15}
+use Rattle.rules.specs.Ready.{Apart}
 
 -- ---- an entry i leaves a task u with the held set s and the row r alone: it is of that task, or its set meets s, or it is within the row
 abbrev pub leaves : List ℤ → List ℤ → ℕ → ℕ → Row → ℕ → Bool
@@ -42,3 +44,8 @@ module _ (t w : List ℤ) (p : ℕ) where
       → lows ≡ rowAt t w p .lows → highs ≡ rowAt t w p .highs → allBelow (leaves t w u s (rowOf lows highs)) n ≡ b → rule15 t w p ≡ b
   unfolding rule15 undisturbed
   reached e task set entries low high q = rw e (rw (task, set, entries, low, high) at q)
+
+-- a head that was read where the heads are at hand
+pub head-at : {t w h from to : List ℤ} → Apart t w h from to → (i k : ℕ) → numberAt h (3 * i + k) ≡ headOf t w i k
+unfolding headOf
+head-at a i k = ap (λ (l : List ℤ). numberAt l (3 * i + k)) (a .heads)

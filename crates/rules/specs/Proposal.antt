@@ -44,8 +44,11 @@ abbrev pub reachedOf : List ℤ → ℕ → Bool
 reachedOf w p = not (eqb (heldOf w p) 4294967295)
 
 -- ---- entries: 'task, held set, variable', and an interval
+unfoldable pub headsOf : List ℤ → List ℤ → List ℤ
+headsOf t w = partOf w (headsFrom t) (3 * entriesOf w)
+
 unfoldable pub headOf : List ℤ → List ℤ → ℕ → ℕ → ℕ
-headOf t w i k = numberAt w (headsFrom t + 3 * i + k)
+headOf t w i k = numberAt (headsOf t w) (3 * i + k)
 
 -- ---- 'two parallel arrays, all low ends and all high ends: point rows, mutex rest rows, one for each entry'
 unfoldable pub lowsOf : List ℤ → List ℤ → List ℤ
@@ -62,8 +65,13 @@ rowAt t w k = rowOf (partOf (lowsOf t w) (k * sizesOf t .variables) (sizesOf t .
 abbrev pub restAt : List ℤ → List ℤ → ℕ → Row
 restAt t w m = rowAt t w (sizesOf t .points + m)
 
+-- the intervals of the entries, behind those of the rows
+unfoldable pub entriesAt : List ℤ → List ℤ → Row
+entriesAt t w =
+    rowOf (partOf (lowsOf t w) (rowsOf t * sizesOf t .variables) (entriesOf w)) (partOf (highsOf t w) (rowsOf t * sizesOf t .variables) (entriesOf w))
+
 unfoldable pub entryLow : List ℤ → List ℤ → ℕ → ℤ
-entryLow t w i = wordOf (lowsOf t w) (rowsOf t * sizesOf t .variables + i)
+entryLow t w i = wordOf (entriesAt t w .lows) i
 
 unfoldable pub entryHigh : List ℤ → List ℤ → ℕ → ℤ
-entryHigh t w i = wordOf (highsOf t w) (rowsOf t * sizesOf t .variables + i)
+entryHigh t w i = wordOf (entriesAt t w .highs) i

@@ -2,8 +2,10 @@
 use crate::Places;
 use crate::held::disjoint;
 use crate::proposal::entries;
-use crate::proposal::entry_range;
-use crate::proposal::head;
+use crate::proposal::entry_highs;
+use crate::proposal::entry_lows;
+use crate::proposal::head_in;
+use crate::proposal::heads;
 use crate::proposal::held;
 use crate::proposal::is_reached;
 use crate::proposal::row_highs;
@@ -17,45 +19,51 @@ ghost use mathlib.Core.Bool.{not};
 ghost use Prim.Native.Nat.{_≤_};
 ghost use Rattle.analysis.specs.Rows.{rowOf};
 ghost use Rattle.rules.specs.Rules.{implies, takes, disturbs, rule15};
-ghost use Rattle.rules.specs.Ready.{Bounded};
+ghost use Rattle.rules.specs.Ready.{Apart, Bounded};
 ghost use Rattle.rules.specs.Examine.{firstBadIn};
 
-// Whether the row's interval holds entry i.
+// Whether the row's interval holds entry i; the heads and the ends of the entries are at hand.
 pub(crate) fn is_taken<'a>(
     t: &'a [i32],
     w: &'a [i32],
+    heads: &'a [i32],
+    from: &'a [i32],
+    to: &'a [i32],
     lows: &'a [i32],
     highs: &'a [i32],
     i: usize,
 ) -> bool
-    requires { ⌜ Bounded (now t) (now w) ⌝ }
+    requires { ⌜ Apart (now t) (now w) (now heads) (now from) (now to) ⌝ }
     requires { ⌜ i ≤ 4294967295 ⌝ }
     ensures { λ r. ⌜ r ≡ takes (now (t .entry)) (now (w .entry)) (rowOf (now (lows .entry)) (now (highs .entry))) i ⌝ }
 {
-    within(entry_range(t, w, i), range(lows, highs, head(t, w, i, 2)))
+    within(range(from, to, i), range(lows, highs, head_in(heads, i, 2)))
 }
 
 // Whether entry i is of another task than u, with a held set disjoint from s, and outside the row.
 fn is_disturbed<'a>(
     t: &'a [i32],
     w: &'a [i32],
+    heads: &'a [i32],
+    from: &'a [i32],
+    to: &'a [i32],
     u: usize,
     s: usize,
     lows: &'a [i32],
     highs: &'a [i32],
     i: usize,
 ) -> bool
-    requires { ⌜ Bounded (now t) (now w) ⌝ }
+    requires { ⌜ Apart (now t) (now w) (now heads) (now from) (now to) ⌝ }
     requires { ⌜ i ≤ 4294967295 ⌝ }
     ensures { λ r. ⌜ r ≡ not (implies (disturbs (now (t .entry)) (now (w .entry)) u s i) (takes (now (t .entry)) (now (w .entry)) (rowOf (now (lows .entry)) (now (highs .entry))) i)) ⌝ }
 {
-    if head(t, w, i, 0) == u {
+    if head_in(heads, i, 0) == u {
         return false;
     }
-    if !disjoint(head(t, w, i, 1), s) {
+    if !disjoint(head_in(heads, i, 1), s) {
         return false;
     }
-    !is_taken(t, w, lows, highs, i)
+    !is_taken(t, w, heads, from, to, lows, highs, i)
 }
 
 pub(crate) fn first_disturbed<'a>(t: &'a [i32], w: &'a [i32], r: Places) -> Found
@@ -64,6 +72,9 @@ pub(crate) fn first_disturbed<'a>(t: &'a [i32], w: &'a [i32], r: Places) -> Foun
     ensures { λ x. ⌜ x ≡ firstBadIn (rule15 (now (t .entry)) (now (w .entry))) r ⌝ }
 {
     let count = entries(w);
+    let all = heads(t, w);
+    let from = entry_lows(t, w);
+    let to = entry_highs(t, w);
     let mut found = Found::Nothing;
     'pairs: for p in r.from..r.to {
         let s = held(w, p);
@@ -74,7 +85,7 @@ pub(crate) fn first_disturbed<'a>(t: &'a [i32], w: &'a [i32], r: Places) -> Foun
         let lows = row_lows(t, w, p);
         let highs = row_highs(t, w, p);
         for i in 0..count {
-            if is_disturbed(t, w, u, s, lows, highs, i) {
+            if is_disturbed(t, w, all, from, to, u, s, lows, highs, i) {
                 found = Found::At(p);
                 break 'pairs;
             }

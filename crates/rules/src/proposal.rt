@@ -1,6 +1,6 @@
 // The parts of a proposal. A row is two lent slices, parts of the low ends and of the high ends.
+use analysis::rows::range;
 use interval::Interval;
-use interval::lattice::between;
 use table::layout::sizes;
 use words::number;
 use words::number_at;
@@ -8,10 +8,11 @@ use words::part;
 use words::word;
 ghost use mathlib.Core.Path.{_≡_};
 ghost use mathlib.Core.Bool.{not};
-ghost use Prim.Native.Nat.{_≤_};
+ghost use Prim.Native.Nat.{_+_, _*_, _≤_};
 ghost use lib.Dec.{eqb};
+ghost use Rattle.words.specs.Words.{numberAt};
 ghost use Rattle.interval.specs.Interval.{fromTo};
-ghost use Rattle.rules.specs.Proposal.{entriesOf, intervalsOf, headsFrom, lowsFrom, heldOf, headOf, lowsOf, highsOf, rowAt, entryLow, entryHigh};
+ghost use Rattle.rules.specs.Proposal.{entriesOf, intervalsOf, headsFrom, lowsFrom, heldOf, headsOf, headOf, lowsOf, highsOf, rowAt, entriesAt, entryLow, entryHigh};
 ghost use Rattle.rules.specs.Ready.{Bounded};
 
 pub(crate) fn entries(w: &[i32]) -> usize
@@ -43,13 +44,31 @@ pub(crate) fn heads_from(t: &[i32]) -> usize
     4 + number_at(t, 3)
 }
 
+// The heads of the entries, three words each.
+pub(crate) fn heads<'a>(t: &'a [i32], w: &'a [i32]) -> &'a [i32]
+    ensures { λ r. ⌜ now r ≡ headsOf (now (t .entry)) (now (w .entry)) ⌝ }
+{
+    let from = heads_from(t);
+    let count = 3 * entries(w);
+    part(w, from, count)
+}
+
 // The word k of the head of entry i: task, held set, variable.
+pub(crate) fn head_in(heads: &[i32], i: usize, k: usize) -> usize
+    requires { ⌜ (i ≤ 4294967295) × (k ≤ 2) ⌝ }
+    ensures { λ r. ⌜ r ≡ numberAt (now (heads .entry)) (3 * i + k) ⌝ }
+    ensures { λ r. ⌜ r ≤ 4294967295 ⌝ }
+{
+    number_at(heads, 3 * i + k)
+}
+
+// The same where the heads are not at hand.
 pub(crate) fn head<'a>(t: &'a [i32], w: &'a [i32], i: usize, k: usize) -> usize
     requires { ⌜ (i ≤ 4294967295) × (k ≤ 2) ⌝ }
     ensures { λ r. ⌜ r ≡ headOf (now (t .entry)) (now (w .entry)) i k ⌝ }
     ensures { λ r. ⌜ r ≤ 4294967295 ⌝ }
 {
-    number_at(w, heads_from(t) + 3 * i + k)
+    head_in(heads(t, w), i, k)
 }
 
 pub(crate) fn lows_from<'a>(t: &'a [i32], w: &'a [i32]) -> usize
@@ -108,13 +127,31 @@ pub(crate) fn row_highs<'a>(t: &'a [i32], w: &'a [i32], k: usize) -> &'a [i32]
     part(highs(t, w), from, count)
 }
 
+// The low ends of the entries.
+pub(crate) fn entry_lows<'a>(t: &'a [i32], w: &'a [i32]) -> &'a [i32]
+    requires { ⌜ Bounded (now t) (now w) ⌝ }
+    ensures { λ r. ⌜ now r ≡ entriesAt (now (t .entry)) (now (w .entry)) .lows ⌝ }
+{
+    let s = sizes(t);
+    let from = (s.points + s.mutexes) * s.variables;
+    let count = entries(w);
+    part(lows(t, w), from, count)
+}
+
+pub(crate) fn entry_highs<'a>(t: &'a [i32], w: &'a [i32]) -> &'a [i32]
+    requires { ⌜ Bounded (now t) (now w) ⌝ }
+    ensures { λ r. ⌜ now r ≡ entriesAt (now (t .entry)) (now (w .entry)) .highs ⌝ }
+{
+    let s = sizes(t);
+    let from = (s.points + s.mutexes) * s.variables;
+    let count = entries(w);
+    part(highs(t, w), from, count)
+}
+
 // The interval of entry i.
 pub(crate) fn entry_range<'a>(t: &'a [i32], w: &'a [i32], i: usize) -> Interval
     requires { ⌜ Bounded (now t) (now w) ⌝ }
-    requires { ⌜ i ≤ 4294967295 ⌝ }
     ensures { λ r. ⌜ r ≡ fromTo (entryLow (now (t .entry)) (now (w .entry)) i) (entryHigh (now (t .entry)) (now (w .entry)) i) ⌝ }
 {
-    let s = sizes(t);
-    let at = (s.points + s.mutexes) * s.variables + i;
-    between(word(lows(t, w), at), word(highs(t, w), at))
+    range(entry_lows(t, w), entry_highs(t, w), i)
 }

@@ -16,7 +16,7 @@ ghost use lib.Signed.{leZ};
 ghost use Rattle.words.specs.Words.{wordOf};
 ghost use Rattle.words.specs.First.{firstBad};
 ghost use Rattle.table.specs.Layout.{sizesOf};
-ghost use Rattle.rules.specs.Proposal.{intervalsOf, lowsFrom, lowsOf, highsOf};
+ghost use Rattle.rules.specs.Proposal.{intervalsOf, headsFrom, lowsFrom, lowsOf, highsOf};
 ghost use Rattle.rules.specs.Rules.{rule8, isSet, heldInRange, headInRange, rule9};
 ghost use Rattle.rules.specs.Ready.{Bounded};
 
@@ -81,40 +81,51 @@ fn head_ok(t: &[i32], field: usize, n: usize) -> bool
 }
 
 // An end: the low one isn't above the high one.
-fn ends_ok<'a>(t: &'a [i32], w: &'a [i32], k: usize) -> bool
-    requires { ⌜ Bounded (now t) (now w) ⌝ }
-    ensures { λ r. ⌜ r ≡ leZ (wordOf (lowsOf (now (t .entry)) (now (w .entry))) k) (wordOf (highsOf (now (t .entry)) (now (w .entry))) k) ⌝ }
+fn ends_ok<'a>(lows: &'a [i32], highs: &'a [i32], k: usize) -> bool
+    ensures { λ r. ⌜ r ≡ leZ (wordOf (now (lows .entry)) k) (wordOf (now (highs .entry)) k) ⌝ }
 {
-    word(lows(t, w), k) <= word(highs(t, w), k)
+    word(lows, k) <= word(highs, k)
 }
 
-// Refusal 9 at a word.
-fn word_ok<'a>(t: &'a [i32], w: &'a [i32], i: usize) -> bool
+// Refusal 9 at a word; where the parts begin and both ends are at hand.
+fn word_ok<'a>(
+    t: &'a [i32],
+    w: &'a [i32],
+    heads: usize,
+    ends: usize,
+    lows: &'a [i32],
+    highs: &'a [i32],
+    i: usize,
+) -> bool
     requires { ⌜ Bounded (now t) (now w) ⌝ }
+    requires { ⌜ (heads ≡ headsFrom (now t)) × (ends ≡ lowsFrom (now t) (now w)) ⌝ }
+    requires { ⌜ (now lows ≡ lowsOf (now t) (now w)) × (now highs ≡ highsOf (now t) (now w)) ⌝ }
     ensures { λ r. ⌜ r ≡ rule9 (now (t .entry)) (now (w .entry)) i ⌝ }
 {
     if i < 4 {
         return true;
     }
-    let heads = heads_from(t);
     if i < heads {
         return held_ok(t, w, i - 4);
     }
-    let ends = lows_from(t, w);
     if i < ends {
         return head_ok(t, (i - heads) % 3, number_at(w, i));
     }
-    ends_ok(t, w, i - ends)
+    ends_ok(lows, highs, i - ends)
 }
 
 pub(crate) fn first_word<'a>(t: &'a [i32], w: &'a [i32]) -> Found
     requires { ⌜ Bounded (now t) (now w) ⌝ }
     ensures { λ r. ⌜ r ≡ firstBad (rule9 (now (t .entry)) (now (w .entry))) (lowsFrom (now (t .entry)) (now (w .entry)) + intervalsOf (now (t .entry)) (now (w .entry))) ⌝ }
 {
-    let to = lows_from(t, w) + intervals(t, w);
+    let from = heads_from(t);
+    let ends = lows_from(t, w);
+    let low = lows(t, w);
+    let high = highs(t, w);
+    let to = ends + intervals(t, w);
     let mut i = 0;
     while i < to {
-        if !word_ok(t, w, i) {
+        if !word_ok(t, w, from, ends, low, high, i) {
             return Found::At(i);
         }
         i += 1;

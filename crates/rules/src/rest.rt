@@ -2,7 +2,10 @@
 use crate::Places;
 use crate::disturb::is_taken;
 use crate::held::has;
-use crate::proposal::head;
+use crate::proposal::entry_highs;
+use crate::proposal::entry_lows;
+use crate::proposal::head_in;
+use crate::proposal::heads;
 use crate::proposal::held;
 use crate::proposal::is_reached;
 use crate::proposal::row_highs;
@@ -22,7 +25,7 @@ ghost use Rattle.table.specs.declared.Point.the-variants.{Unlock};
 ghost use Rattle.rules.specs.Held.{hasOf};
 ghost use Rattle.rules.specs.Proposal.{headOf, restAt};
 ghost use Rattle.rules.specs.Rules.{implies, takes, rests, restPoint, restEntry, rule16};
-ghost use Rattle.rules.specs.Ready.{Bounded};
+ghost use Rattle.rules.specs.Ready.{Apart, Bounded};
 ghost use Rattle.rules.specs.Examine.{firstBadIn};
 
 // An unlock of m at the point p.
@@ -64,16 +67,34 @@ fn rest_point<'a>(t: &'a [i32], w: &'a [i32], p: usize) -> bool
 }
 
 // Whether entry i has the mutex m, or lies within its rest row.
-fn rests_at<'a>(t: &'a [i32], w: &'a [i32], i: usize, m: usize) -> bool
+fn rests_at<'a>(
+    t: &'a [i32],
+    w: &'a [i32],
+    heads: &'a [i32],
+    from: &'a [i32],
+    to: &'a [i32],
+    i: usize,
+    m: usize,
+) -> bool
     requires { ⌜ Bounded (now t) (now w) ⌝ }
+    requires { ⌜ Apart (now t) (now w) (now heads) (now from) (now to) ⌝ }
     requires { ⌜ (m < 8) × (i ≤ 4294967295) ⌝ }
     ensures { λ r. ⌜ r ≡ implies (not (hasOf (headOf (now (t .entry)) (now (w .entry)) i 1) m)) (takes (now (t .entry)) (now (w .entry)) (restAt (now (t .entry)) (now (w .entry)) m) i) ⌝ }
 {
-    if has(head(t, w, i, 1), m) {
+    if has(head_in(heads, i, 1), m) {
         return true;
     }
     let rest = number_at(t, 3) + m;
-    is_taken(t, w, row_lows(t, w, rest), row_highs(t, w, rest), i)
+    is_taken(
+        t,
+        w,
+        heads,
+        from,
+        to,
+        row_lows(t, w, rest),
+        row_highs(t, w, rest),
+        i,
+    )
 }
 
 fn rest_entry<'a>(t: &'a [i32], w: &'a [i32], i: usize) -> bool
@@ -82,9 +103,12 @@ fn rest_entry<'a>(t: &'a [i32], w: &'a [i32], i: usize) -> bool
     ensures { λ r. ⌜ r ≡ restEntry (now (t .entry)) (now (w .entry)) i ⌝ }
 {
     let mutexes = number_at(t, 2);
+    let all = heads(t, w);
+    let from = entry_lows(t, w);
+    let to = entry_highs(t, w);
     let mut m = 0;
     while m < mutexes {
-        if !rests_at(t, w, i, m) {
+        if !rests_at(t, w, all, from, to, i, m) {
             return false;
         }
         m += 1;

@@ -168,7 +168,7 @@ module _ {t w : List ℤ} {room count : ℕ} {s : State} (ok : Accepts t w room 
     assign-keeps v e q at pe (Error n k g) ev =
         halted (formed ok) i u hu n k
         (error-on-list t w schedule (s .values) p (stands .point) (reached-test ok p stands) row
-        v e q at n k g pe (fields (Assign v e q) pe .1 .below) ev)
+        v e q at n k g pe ev)
 
     -- ---- test
     -- the row of a side, and that the values lie within it where that side is taken
@@ -197,7 +197,7 @@ module _ {t w : List ℤ} {room count : ℕ} {s : State} (ok : Accepts t w room 
     test-keeps c y n at pe (Failure e k g) ev =
         halted (formed ok) i u hu e k
         (failure-on-list t w schedule (s .values) p (stands .point) (reached-test ok p stands) row
-        c y n at e k g pe (fields (Test c y n) pe .0 .below) ev)
+        c y n at e k g pe ev)
 
     -- ---- lock and unlock
     -- the owners after mutex a has the owner o: what holds of a and o, and of the others with theirs

@@ -19,20 +19,24 @@ use Rattle.rules.proofs.disturb.first_disturbed.Statement.{statement}
 use Rattle.rules.proofs.disturb.first_disturbed.Tie as tie
 
 abbrev Inv-loop : tie.InvT-loop
-Inv-loop t w count found₀ p s u lows highs i₀ p-end found i = (found ≡ Nothing) × Checked (leaves t w u s (rowOf lows highs)) count i
+Inv-loop t w count all from to found₀ p s u lows highs i₀ p-end found i = (found ≡ Nothing) × Checked (leaves t w u s (rowOf lows highs)) count i
 
 abbrev μ-loop : tie.MeasureT-loop
-μ-loop t w count found₀ p s u lows highs i₀ p-end found i = count - i
+μ-loop t w count all from to found₀ p s u lows highs i₀ p-end found i = count - i
 
 abbrev Inv-pairs : tie.InvT-pairs
-Inv-pairs t w count found₀ p₀ p-end found p = (found ≡ Nothing) × Sought (rule15 t w) p₀ p-end p
+Inv-pairs t w count all from to found₀ p₀ p-end found p = (found ≡ Nothing) × Sought (rule15 t w) p₀ p-end p
 
 abbrev μ-pairs : tie.MeasureT-pairs
-μ-pairs t w count found₀ p₀ p-end found p = p-end - p
+μ-pairs t w count all from to found₀ p₀ p-end found p = p-end - p
+
+-- to where the entries were counted
+abbrev to-count : tie.After-entry-highs Inv-loop μ-loop Inv-pairs μ-pairs → tie.After-entries Inv-loop μ-loop Inv-pairs μ-pairs
+to-count c = c .before .before .before
 
 -- p and i are numbers that a word can hold
 point-below : (c : tie.In-pairs Inv-loop μ-loop Inv-pairs μ-pairs) → c .before .pairs .p ≤ 4294967295
-point-below c = omega (arith, c .pairs-test .taken, c .before .before .before .pre .1 .1)
+point-below c = omega (arith, c .pairs-test .taken, to-count (c .before .before) .before .pre .1 .1)
 
 pairs-again : tie.Need-pairs-again Inv-loop μ-loop Inv-pairs μ-pairs
 pairs-again c =
@@ -45,15 +49,18 @@ pairs-again c =
     )
 
 row-lows-requires : tie.Need-row-lows-requires Inv-loop μ-loop Inv-pairs μ-pairs
-row-lows-requires c κs = let turn = c .before .before .before .before in (turn .before .before .before .pre .0, point-below turn)
+row-lows-requires c κs = let turn = c .before .before .before .before in (to-count (turn .before .before) .before .pre .0, point-below turn)
 
 row-highs-requires : tie.Need-row-highs-requires Inv-loop μ-loop Inv-pairs μ-pairs
-row-highs-requires c κs = let turn = c .before .before .before .before .before in (turn .before .before .before .pre .0, point-below turn)
+row-highs-requires c κs = let turn = c .before .before .before .before .before in (to-count (turn .before .before) .before .pre .0, point-below turn)
 
 is-disturbed-requires : tie.Need-is-disturbed-requires Inv-loop μ-loop Inv-pairs μ-pairs
 is-disturbed-requires c κs =
-    let entries = c .before .before .before .before .before .before .before .before .before .before in
-    (entries .before .pre .0, omega (arith, c .loop-test .taken, entries .entries .ensures .1))
+    let highs = c .before .before .before .before .before .before .before .before .before .before in
+    let lows = highs .before in (
+      record { heads = lows .before .heads .ensures; lows = lows .entry-lows .ensures; highs = highs .entry-highs .ensures },
+      omega (arith, c .loop-test .taken, to-count highs .entries .ensures .1),
+    )
 
 loop-again : tie.Need-loop-again Inv-loop μ-loop Inv-pairs μ-pairs
 loop-again c =
@@ -64,7 +71,7 @@ loop-again c =
 
 -- the rule at the point, by the test of its entries
 tested : (c : tie.After-row-highs Inv-loop μ-loop Inv-pairs μ-pairs) {b : Bool} → let lows = c .before in let task = lows .before in
-    let held = task .before .before .before in let entries = held .before .before .before in let start = entries .before .args in
+    let held = task .before .before .before in let entries = to-count (held .before .before .before) in let start = entries .before .args in
     let row = rowOf (now (lows .row-lows .result)) (now (c .row-highs .result)) in
     allBelow (leaves (now (start .t)) (now (start .w)) (task .task-of .result) (held .held .result) row) (entries .entries .result) ≡ b
     → rule15 (now (start .t)) (now (start .w)) (held .before .before .pairs .p) ≡ b
@@ -73,7 +80,7 @@ tested c q =
     let task = lows .before in
     let reach = task .before .before in
     let held = reach .before in
-    let entries = held .before .before .before in
+    let entries = to-count (held .before .before .before) in
     reached _ _ _ (holds-not (rw (held .held .ensures .0) at (reach .is-reached .ensures)) (task .before .if1 .left)) (task .task-of .ensures)
     (held .held .ensures .0) (entries .entries .ensures .0) (lows .row-lows .ensures) (c .row-highs .ensures) q
 
@@ -102,7 +109,10 @@ first-disturbed-spec =
     Inv-pairs
     μ-pairs
     (λ c κs. search needs)
-    (λ c. (refl, seek (c .before .pre .1 .0)))
+    (λ c κs. search needs)
+    (λ c κs. search needs)
+    (λ c κs. search needs)
+    (λ c. (refl, seek (to-count c .before .pre .1 .0)))
     (λ c κs. point-below c)
     (λ c κs. search needs)
     (λ c. search needs)

@@ -1,14 +1,17 @@
 -- `rules::disturb::is_taken` meets its contract: the two intervals and the variable are what the calls give. Assumes nothing.
 use borrow.Author.Needs.{needs}
+use Rattle.rules.specs.Proposal.{headOf, entryLow, entryHigh}
 use Rattle.rules.specs.Rules.{takes}
 use Rattle.rules.proofs.disturb.is_taken.Statement.{statement}
 use Rattle.rules.proofs.disturb.is_taken.Tie as tie
 
 returns : tie.Need-returns
-unfolding takes
+unfolding takes headOf entryLow entryHigh
 returns c =
     let head = c .before .before in
-    rw (c .within .ensures, head .before .entry-range .ensures, c .before .range .ensures, head .head .ensures .0)
+    let entry = head .before in
+    let apart = entry .before .pre .0 in
+    rw (c .within .ensures, entry .range .ensures, c .before .range2 .ensures, head .head-in .ensures .0, apart .heads, apart .lows, apart .highs)
 
 pub is-taken-spec : {M : Type 1} → statement M
 is-taken-spec =

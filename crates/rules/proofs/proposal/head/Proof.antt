@@ -1,4 +1,4 @@
--- `rules::proposal::head` meets its contract: the number that was read, three words an entry. Assumes nothing.
+-- `rules::proposal::head` meets its contract: the number that was read among the heads. Assumes nothing.
 use borrow.Author.Needs.{needs}
 use Rattle.rules.specs.Proposal.{headOf}
 use Rattle.rules.proofs.proposal.head.Statement.{statement}
@@ -10,8 +10,5 @@ head-spec =
     tie.close
     (tie.spec
     (λ c κs. search needs)
-    (λ c. search needs)
-    (λ c. search needs)
-    (λ c. search needs)
     (λ c κs. search needs)
-    (λ c. (rw (← c .before .heads-from .ensures .0) (c .number-at .ensures .0), c .number-at .ensures .1)))
+    (λ c. (rw (← c .before .heads .ensures) (c .head-in .ensures .0), c .head-in .ensures .1)))

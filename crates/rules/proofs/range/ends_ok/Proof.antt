@@ -4,23 +4,10 @@ use Rattle.interval.proofs.MachineArithmetic.{handed32}
 use Rattle.rules.proofs.range.ends_ok.Statement.{statement}
 use Rattle.rules.proofs.range.ends_ok.Tie as tie
 
-returns : tie.Need-returns
-returns c =
-    let highs = c .before in
-    let low = highs .before in
-    rw (
-      handed32 (low .word .ensures) (low .word .ok),
-      handed32 (c .word2 .ensures) (c .word2 .ok),
-      low .before .lows .ensures,
-      highs .highs .ensures,
-    )
-
 pub ends-ok-spec : {M : Type 1} → statement M
 ends-ok-spec =
     tie.close
     (tie.spec
     (λ c κs. search needs)
     (λ c κs. search needs)
-    (λ c κs. search needs)
-    (λ c κs. search needs)
-    returns)
+    (λ c. rw (handed32 (c .before .word .ensures) (c .before .word .ok), handed32 (c .word2 .ensures) (c .word2 .ok))))

@@ -9,16 +9,28 @@ use Rattle.rules.proofs.range.first_word.Statement.{statement}
 use Rattle.rules.proofs.range.first_word.Tie as tie
 
 abbrev Inv-loop : tie.InvT-loop
-Inv-loop t w to i₀ i = Searched (rule9 t w) to i
+Inv-loop t w from ends low high to i₀ i = Searched (rule9 t w) to i
 
 abbrev μ-loop : tie.MeasureT-loop
-μ-loop t w to i₀ i = to - i
+μ-loop t w from ends low high to i₀ i = to - i
+
+-- to where the low ends begin
+abbrev to-ends : tie.After-intervals Inv-loop μ-loop → tie.After-lows-from Inv-loop μ-loop
+to-ends c = c .before .before .before
+
+word-ok-requires : tie.Need-word-ok-requires Inv-loop μ-loop
+word-ok-requires c κs =
+    let sizes = c .before .before in
+    let highs = sizes .before in
+    let ends = to-ends sizes in
+    let heads = ends .before in
+    (heads .before .pre, ((heads .heads-from .ensures .0, ends .lows-from .ensures .0), (highs .before .lows .ensures, highs .highs .ensures)))
 
 returns : tie.Need-returns Inv-loop μ-loop
 returns c =
     let turn = c .before .before in
     let sizes = turn .before .before in
-    rw (← sizes .intervals .ensures .0, ← sizes .before .lows-from .ensures .0)
+    rw (← sizes .intervals .ensures .0, ← to-ends sizes .lows-from .ensures .0)
     (stop (turn .before .loop .inv) (turn .loop-test .taken) (fails-not (c .before .word-ok .ensures) (c .if1 .taken)))
 
 loop-again : tie.Need-loop-again Inv-loop μ-loop
@@ -29,7 +41,7 @@ loop-again c =
 returns-2 : tie.Need-returns-2 Inv-loop μ-loop
 returns-2 c =
     let sizes = c .before .before in
-    rw (← sizes .intervals .ensures .0, ← sizes .before .lows-from .ensures .0) (done (c .before .loop .inv) (c .loop-test .left))
+    rw (← sizes .intervals .ensures .0, ← to-ends sizes .lows-from .ensures .0) (done (c .before .loop .inv) (c .loop-test .left))
 
 pub first-word-spec : {M : Type 1} → statement M
 first-word-spec =
@@ -39,9 +51,12 @@ first-word-spec =
     μ-loop
     (λ c κs. search needs)
     (λ c κs. search needs)
+    (λ c κs. search needs)
+    (λ c κs. search needs)
+    (λ c κs. search needs)
     (λ c. search needs)
     (λ c. start)
-    (λ c κs. search needs)
+    word-ok-requires
     returns
     (λ c. search needs)
     (λ c. search needs)

@@ -1,6 +1,8 @@
 -- `rules::range::word_ok` meets its contract: the branches are those of the refusal, by where the parts begin. Assumes nothing.
+use native.Mathlib.Omega.{arith}
 use borrow.Author.Needs.{needs}
 use borrow.Author.Tests.{lt-ltb, le-ltb}
+use Rattle.rules.specs.Proposal.{headsFrom}
 use Rattle.rules.specs.Rules.{rule9}
 use Rattle.rules.proofs.range.word_ok.Statement.{statement}
 use Rattle.rules.proofs.range.word_ok.Tie as tie
@@ -9,22 +11,30 @@ size : tie.Need-returns
 unfolding rule9
 size c = rw (lt-ltb _ 4 (c .if1 .taken))
 
+held-ok-requires : tie.Need-held-ok-requires
+unfolding headsFrom
+held-ok-requires c κs =
+    let pre = c .before .before .pre in
+    (pre .0 .mutexes, omega (arith, c .if2 .taken, pre .1 .0 .0, pre .0 .points))
+
 held : tie.Need-returns-2
 unfolding rule9
 held c =
-    let heads = c .before .before in
-    rw (le-ltb _ 4 (heads .before .if1 .left), ← heads .heads-from .ensures .0, lt-ltb _ _ (c .before .if2 .taken)) (c .held-ok .ensures)
+    let past = c .before .before in
+    let pre = past .before .pre in
+    rw (le-ltb _ 4 (past .if1 .left), ← pre .1 .0 .0, lt-ltb _ _ (c .before .if2 .taken)) (c .held-ok .ensures)
 
 head : tie.Need-returns-3
 unfolding rule9
 head c =
-    let ends = c .before .before .before in
-    let heads = ends .before .before in
+    let heads = c .before .before .before in
+    let past = heads .before in
+    let pre = past .before .pre in
     rw (
-      le-ltb _ 4 (heads .before .if1 .left),
-      ← heads .heads-from .ensures .0,
-      le-ltb _ _ (ends .before .if2 .left),
-      ← ends .lows-from .ensures .0,
+      le-ltb _ 4 (past .if1 .left),
+      ← pre .1 .0 .0,
+      le-ltb _ _ (heads .if2 .left),
+      ← pre .1 .0 .1,
       lt-ltb _ _ (c .before .before .if3 .taken),
       ← c .before .number-at .ensures .0,
     )
@@ -33,14 +43,17 @@ head c =
 end : tie.Need-returns-4
 unfolding rule9
 end c =
-    let ends = c .before .before in
-    let heads = ends .before .before in
+    let heads = c .before .before in
+    let past = heads .before in
+    let pre = past .before .pre in
     rw (
-      le-ltb _ 4 (heads .before .if1 .left),
-      ← heads .heads-from .ensures .0,
-      le-ltb _ _ (ends .before .if2 .left),
-      ← ends .lows-from .ensures .0,
+      le-ltb _ 4 (past .if1 .left),
+      ← pre .1 .0 .0,
+      le-ltb _ _ (heads .if2 .left),
+      ← pre .1 .0 .1,
       le-ltb _ _ (c .before .if3 .left),
+      ← pre .1 .1 .0,
+      ← pre .1 .1 .1,
     )
     (c .ends-ok .ensures)
 
@@ -49,10 +62,8 @@ word-ok-spec =
     tie.close
     (tie.spec
     size
-    (λ c κs. search needs)
-    (λ c κs. search needs)
+    held-ok-requires
     held
-    (λ c κs. search needs)
     (λ c κs. search needs)
     (λ c κs. search needs)
     head
