@@ -1,4 +1,5 @@
--- Where an evaluation ends: at no earlier position in the schedule than it started from, and, where it ends in an error, at one of the nodes.
+-- Where an evaluation ends: at no earlier position in the schedule than it started from, and, where it ends in an error, at one of the nodes and
+-- with one of the two kinds.
 -- Assumes nothing.
 use Prim.Native.Nat.{ℕ, zero, suc, _*_, _/_, _<_, _≤_}
 use mathlib.Core.Path.{_≡_, refl, sym, _∙_}
@@ -23,24 +24,24 @@ use Rattle.table.specs.Decode.{shapeBy, shapeFrom, shapeOf}
 use Rattle.table.specs.Tree.{Arith, Cond, arithBy, condBy, arithF, condF, arithAt, condAt}
 use Rattle.table.specs.Meaning.{valueThen, valueThenTell, truthThen, truthThenGive, fit, fitBy, perform, performBy, inputBy, branch, result, truth}
 
--- an evaluation that started at the position p ended, with an error at a node below b alone
+-- an evaluation that started at the position p ended, with an error of a kind at a node below b alone
 abbrev pub Ends : ℕ → ℕ → Evaluation → Type 0
 Ends b p (Value z q) = p ≤ q
-Ends b p (Error n k q) = (p ≤ q) × (n < b)
+Ends b p (Error n k q) = (p ≤ q) × (n < b) × (k ≤ 2)
 
 abbrev pub Tells : ℕ → ℕ → Verity → Type 0
 Tells b p (Truth t q) = p ≤ q
-Tells b p (Failure n k q) = (p ≤ q) × (n < b)
+Tells b p (Failure n k q) = (p ≤ q) × (n < b) × (k ≤ 2)
 
 module _ (b : ℕ) where
   -- ---- one thing after another
   ends-from : (p q : ℕ) (r : Evaluation) → p ≤ q → Ends b q r → Ends b p r
   ends-from p q (Value z s) l h = omega arith
-  ends-from p q (Error n k s) l h = (omega (arith, h .0), h .1)
+  ends-from p q (Error n k s) l h = (omega (arith, h .0), h .1, h .2)
 
   tells-from : (p q : ℕ) (r : Verity) → p ≤ q → Tells b q r → Tells b p r
   tells-from p q (Truth t s) l h = omega arith
-  tells-from p q (Failure n k s) l h = (omega (arith, h .0), h .1)
+  tells-from p q (Failure n k s) l h = (omega (arith, h .0), h .1, h .2)
 
   value-then : (p : ℕ) (r : Evaluation) (f : ℤ → ℕ → Evaluation) → Ends b p r → ((z : ℤ) (q : ℕ) → Ends b q (f z q)) → Ends b p (valueThen r f)
   unfolding valueThen
@@ -67,11 +68,11 @@ module _ (b : ℕ) where
   fit-ends : (w : Bool) (n : ℕ) (z : ℤ) (p : ℕ) → n < b → Ends b p (fitBy w n z p)
   unfolding fitBy
   fit-ends true n z p l = omega arith
-  fit-ends false n z p l = (omega arith, l)
+  fit-ends false n z p l = (omega arith, l, omega arith)
 
   perform-ends : (w : Bool) (n : ℕ) (z : ℤ) (p : ℕ) → n < b → Ends b p (performBy w n z p)
   unfolding performBy fit
-  perform-ends true n z p l = (omega arith, l)
+  perform-ends true n z p l = (omega arith, l, omega arith)
   perform-ends false n z p l = fit-ends (isWord z) n z p l
 
   input-ends : (w : Bool) (l h v : ℤ) (p : ℕ) → Ends b p (inputBy w l h v p)

@@ -1,0 +1,246 @@
+//! A safe wrapper of `librangecheck_c.a`, the proved check and run, with the standard library alone.
+//!
+//! Both take any words whatever and always come back: each is proved equal to a definition, for every table, proposal and schedule.
+//!
+//! ```
+//! use rangecheck::{check, run, Refusal};
+//!
+//! // Two tasks and one variable; the first task writes 5 to it.
+//! let table = [2, 1, 0, 3, 1, 2, 1, 0, 1, 0, 0, 1, 0, 0, 0, 0, 0, 0, 0, 0, 0, 5, 0, 0];
+//! let proposal = [3, 1, 0, 1, 0, 0, 0, 0, 0, 0, 0, 5, 0, 5, 0, 5, 5, 5];
+//! assert_eq!(check(&table, &proposal), Ok(vec![]));
+//! assert_eq!(run(&table, &[0]).unwrap().values[0], 5);
+//!
+//! // The second task's row must hold what the first writes.
+//! let mut narrow = proposal;
+//! narrow[16] = 4;
+//! let refusal = check(&table, &narrow).unwrap_err();
+//! assert_eq!(refusal, Refusal { number: 15, place: 2 });
+//! assert_eq!(refusal.to_string(), "refused 15 disturb at 2");
+//! ```
+#![deny(missing_docs, unsafe_op_in_unsafe_fn)]
+
+use std::fmt;
+
+#[repr(C)]
+struct Answer {
+    number: u32,
+    place: u64,
+    count: u64,
+}
+
+extern "C" {
+    fn rangecheck_check(
+        table: *const i32,
+        table_len: usize,
+        proposal: *const i32,
+        proposal_len: usize,
+        alarms: *mut i32,
+        alarms_len: usize,
+    ) -> Answer;
+
+    fn rangecheck_run(
+        table: *const i32,
+        table_len: usize,
+        schedule: *const i32,
+        schedule_len: usize,
+        answer: *mut i64,
+        answer_len: usize,
+    ) -> Answer;
+}
+
+/// Words that hold any alarm list.
+pub const ALARM_WORDS: usize = 4096;
+
+/// Words of a state: 8 points, 16 values, 8 owners, 8 stop nodes, 8 stop kinds.
+pub const STATE_WORDS: usize = 48;
+
+/// The first broken rule and its smallest place.
+#[derive(Clone, Copy, Debug, PartialEq, Eq, Hash)]
+pub struct Refusal {
+    /// 1 to 17, or 31 of [`run_into`].
+    pub number: u32,
+    /// A word, task, node, point, entry or count of words, by the number.
+    pub place: u64,
+}
+
+impl Refusal {
+    /// The trade's word for the rule.
+    pub fn word(&self) -> &'static str {
+        const WORDS: [&str; 17] = [
+            "length", "size", "share", "node", "point", "use", "reach", "match", "range", "order",
+            "start", "locks", "flow", "write", "disturb", "rest", "room",
+        ];
+        match self.number {
+            n @ 1..=17 => WORDS[n as usize - 1],
+            _ => "short",
+        }
+    }
+}
+
+impl fmt::Display for Refusal {
+    fn fmt(&self, f: &mut fmt::Formatter<'_>) -> fmt::Result {
+        write!(
+            f,
+            "refused {} {} at {}",
+            self.number,
+            self.word(),
+            self.place
+        )
+    }
+}
+
+impl std::error::Error for Refusal {}
+
+/// What can go wrong at a node.
+#[derive(Clone, Copy, Debug, PartialEq, Eq, PartialOrd, Ord, Hash)]
+pub enum Kind {
+    /// The exact result can lie outside an `i32`.
+    Overflow,
+    /// The divisor can be 0.
+    Zero,
+}
+
+/// A node that needs a guard, and against what.
+#[derive(Clone, Copy, Debug, PartialEq, Eq, PartialOrd, Ord, Hash)]
+pub struct Alarm {
+    /// The node's number in the table.
+    pub node: usize,
+    /// What can go wrong there.
+    pub kind: Kind,
+}
+
+/// A state of a run. Slots past the table's sizes are 0.
+#[derive(Clone, Copy, Debug, PartialEq, Eq, Hash)]
+pub struct State {
+    /// Each task's point.
+    pub points: [usize; 8],
+    /// Each variable.
+    pub values: [i32; 16],
+    /// Each mutex's owner, or -1.
+    pub owners: [i64; 8],
+    /// The node at which each task stopped, or -1.
+    pub stop_nodes: [i64; 8],
+    /// The kind of its error (1 overflow, 2 zero), or 0.
+    pub stop_kinds: [usize; 8],
+}
+
+/// Checks a proposal against a table, and gives the exact list of possible alarms, by node, then kind.
+///
+/// ```
+/// use rangecheck::{check, Alarm, Kind};
+///
+/// // One task divides 10 by its variable, which is 0; the point after that is never reached.
+/// let table = [1, 1, 0, 2, 3, 2, 0, 1, 0, 2, 1, 0, 0, 0, 0, 0, 10, 0, 0, 2, 0, 0, 0, 7, 0, 1, 0];
+/// let alarms = check(&table, &[2, 1, 0, 0, 0, -1, 0, 0, 0, 0]);
+/// assert_eq!(alarms, Ok(vec![Alarm { node: 2, kind: Kind::Zero }]));
+/// ```
+pub fn check(table: &[i32], proposal: &[i32]) -> Result<Vec<Alarm>, Refusal> {
+    let mut words = [0; ALARM_WORDS];
+    let count = check_into(table, proposal, &mut words)?;
+    let alarm = |pair: &[i32]| Alarm {
+        node: pair[0] as usize,
+        kind: if pair[1] == 1 {
+            Kind::Overflow
+        } else {
+            Kind::Zero
+        },
+    };
+    Ok(words[..2 * count].chunks_exact(2).map(alarm).collect())
+}
+
+/// The same, without an allocation: gives the number of alarms, which stand at the buffer's front in pairs of a node and a kind (1 overflow, 2 zero).
+/// Later words keep their contents, and a refusal changes none.
+///
+/// ```
+/// use rangecheck::{check_into, Refusal};
+///
+/// let table = [1, 1, 0, 2, 3, 2, 0, 1, 0, 2, 1, 0, 0, 0, 0, 0, 10, 0, 0, 2, 0, 0, 0, 7, 0, 1, 0];
+/// let proposal = [2, 1, 0, 0, 0, -1, 0, 0, 0, 0];
+/// let mut alarms = [9; 3];
+/// assert_eq!(check_into(&table, &proposal, &mut alarms), Ok(1));
+/// assert_eq!(alarms, [2, 2, 9]);
+/// assert_eq!(check_into(&table, &proposal, &mut []), Err(Refusal { number: 17, place: 2 }));
+/// ```
+pub fn check_into(table: &[i32], proposal: &[i32], alarms: &mut [i32]) -> Result<usize, Refusal> {
+    // SAFETY: the function takes any words; a slice is a pointer that is not null and a length, and the borrow of `alarms` shows that it overlaps
+    // neither of the others.
+    let answer = unsafe {
+        rangecheck_check(
+            table.as_ptr(),
+            table.len(),
+            proposal.as_ptr(),
+            proposal.len(),
+            alarms.as_mut_ptr(),
+            alarms.len(),
+        )
+    };
+    told(&answer)?;
+    Ok(answer.count as usize)
+}
+
+/// Plays a table by a schedule, and gives the last state.
+///
+/// ```
+/// use rangecheck::{run, Refusal};
+///
+/// let table = [1, 1, 0, 2, 3, 2, 0, 1, 0, 2, 1, 0, 0, 0, 0, 0, 10, 0, 0, 2, 0, 0, 0, 7, 0, 1, 0];
+/// let state = run(&table, &[0, 0]).unwrap();
+/// assert_eq!((state.stop_nodes[0], state.stop_kinds[0]), (2, 2));
+/// assert_eq!(run(&table[..26], &[]), Err(Refusal { number: 1, place: 26 }));
+/// ```
+pub fn run(table: &[i32], schedule: &[i32]) -> Result<State, Refusal> {
+    let mut words = [0; STATE_WORDS];
+    run_into(table, schedule, &mut words)?;
+    Ok(State {
+        points: part(&words, 0).map(|z| z as usize),
+        values: part(&words, 8).map(|z| z as i32),
+        owners: part(&words, 24),
+        stop_nodes: part(&words, 32),
+        stop_kinds: part(&words, 40).map(|z| z as usize),
+    })
+}
+
+/// The same, with the state's [`STATE_WORDS`] words written to the front of a slice; later words keep their contents. A table that is refused gives zeros. A
+/// slice that is too short is never written: after the table's refusals it is refused by 31.
+///
+/// ```
+/// use rangecheck::{run_into, Refusal};
+///
+/// let table = [1, 1, 0, 1, 0, 1, 7, 0, 0, 0, 0];
+/// let mut words = [9; 49];
+/// assert_eq!(run_into(&table, &[], &mut words[..47]), Err(Refusal { number: 31, place: 48 }));
+/// assert_eq!(words, [9; 49]);
+/// assert_eq!(run_into(&table, &[], &mut words), Ok(()));
+/// assert_eq!((words[8], words[48]), (7, 9));
+/// ```
+pub fn run_into(table: &[i32], schedule: &[i32], answer: &mut [i64]) -> Result<(), Refusal> {
+    // SAFETY: as in `check_into`.
+    let told_by = unsafe {
+        rangecheck_run(
+            table.as_ptr(),
+            table.len(),
+            schedule.as_ptr(),
+            schedule.len(),
+            answer.as_mut_ptr(),
+            answer.len(),
+        )
+    };
+    told(&told_by)
+}
+
+// The refusal that an answer tells, if it tells one.
+fn told(answer: &Answer) -> Result<(), Refusal> {
+    match answer.number {
+        0 => Ok(()),
+        number => Err(Refusal {
+            number,
+            place: answer.place,
+        }),
+    }
+}
+
+// The words of a part of a state, from its first on.
+fn part<const N: usize>(words: &[i64; STATE_WORDS], from: usize) -> [i64; N] {
+    std::array::from_fn(|k| words[from + k])
+}

@@ -1,0 +1,41 @@
+-- A state of a run as 48 words, and what a run leaves in its answer slice.
+-- Assumes nothing.
+use Prim.Native.Nat.{ℕ, _-_, _≤_}
+use mathlib.Core.Bool.{Bool, true, false, cond}
+use mathlib.Core.List.{List, _++_}
+use lib.Dec.{ltb}
+use lib.IntN.{ℤ, pos}
+use lib.ListN.{length, drop, getD}
+use Rattle.words.specs.Words.{wordOf}
+use Rattle.words.specs.Tabulate.{tabulate}
+use Rattle.run.specs.declared.State.{State}
+use Rattle.run.specs.Run.{runOf}
+
+-- word i of a state: 8 points, 16 values, 8 owners, 8 stop nodes, 8 stop kinds
+unfoldable pub slotOf : State → ℕ → ℤ
+slotOf s i =
+    cond (ltb i 8) (pos (getD (s .points) i 0))
+    (cond (ltb i 24) (wordOf (s .values) (i - 8))
+    (cond (ltb i 32) (wordOf (s .owners) (i - 24))
+    (cond (ltb i 40) (wordOf (s .«stop_nodes») (i - 32))
+    (pos (getD (s .«stop_kinds») (i - 40) 0)))))
+
+unfoldable pub slotsOf : State → List ℤ
+slotsOf s = tabulate (slotOf s) 48
+
+-- an answer slice that is too short stays as it came; in a longer one 'later words keep their contents'
+unfoldable pub laidBy : Bool → State → List ℤ → List ℤ
+laidBy true s d = d
+laidBy false s d = slotsOf s ++ drop 48 d
+
+unfoldable pub laidOf : State → List ℤ → List ℤ
+laidOf s d = laidBy (ltb (length d) 48) s d
+
+-- a table's refusal has a state of zeros
+unfoldable pub sliceOf : List ℤ → List ℤ → List ℤ → List ℤ
+sliceOf t ws d = laidOf (runOf t ws .state) d
+
+-- a state's points and kinds are small, as those of every state that a run gives; the private functions that write one ask for it
+pub record Fits (s : State) : Type 0 where
+  pub point-fits : (u : ℕ) → getD (s .points) u 0 ≤ 256
+  pub kind-fits : (u : ℕ) → getD (s .«stop_kinds») u 0 ≤ 256
