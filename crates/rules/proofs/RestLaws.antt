@@ -2,7 +2,7 @@
 -- Assumes nothing.
 use Prim.Native.Nat.{ℕ, _-_, _<_, _≤_}
 use mathlib.Core.Path.{_≡_}
-use mathlib.Core.Bool.{Bool, true, false, not}
+use mathlib.Core.Bool.{Bool, true, false, not, and-true}
 use mathlib.Core.List.{List}
 use native.Mathlib.Omega.{arith}
 use borrow.Author.Tests.{lt-ltb, le-ltb}
@@ -14,8 +14,8 @@ use Rattle.table.specs.Decode.{pointOf}
 use Rattle.table.specs.Passes.{Passes, FormedPoint}
 use Rattle.rules.specs.Held.{hasOf}
 use Rattle.rules.specs.Proposal.{heldOf, reachedOf, headOf, rowAt, restAt}
-use Rattle.rules.specs.Outcomes.{rowWithinOf}
-use Rattle.rules.specs.Rules.{implies, takes, rests, restPoint, restEntry, rule16}
+use Rattle.rules.specs.Outcomes.{Outcome, rowWithinOf, outcomeIf, onlyIf, outcomesBy, outcomesOf}
+use Rattle.rules.specs.Rules.{implies, allOutcomes, takes, rests, restPoint, restEntry, rule16}
 
 -- the mutex of an unlock is one of the table's, which are at most 8
 unlock-formed : (t : List ℤ) (p : ℕ) (x : Point) {m q : ℕ} → x ≡ Unlock m q → FormedPoint t p x → m < sizesOf t .mutexes
@@ -31,19 +31,24 @@ module _ (t w : List ℤ) (p : ℕ) where
   unfolding restPoint
   not-reached e = rw e
 
-  pub reached : {b : Bool} (x : Point) → reachedOf w p ≡ true → pointOf (pointsOf t) p ≡ x → b ≡ rests t w x p → b ≡ restPoint t w p
-  unfolding restPoint
+  pub reached : {b : Bool} (x : Point) → reachedOf w p ≡ true → pointOf (pointsOf t) p ≡ x
+      → b ≡ rests t w x (outcomesBy t w x (heldOf w p) (rowAt t w p)) → b ≡ restPoint t w p
+  unfolding restPoint outcomesOf
   reached x e is q = rw (e, is) q
 
   -- ---- at an unlock: the mutex isn't held, or the row lies within its rest row
-  pub not-held : (m q : ℕ) → hasOf (heldOf w p) m ≡ false → true ≡ rests t w (Unlock m q) p
-  unfolding rests
+  -- the outcomes of an unlock of m
+  abbrev given : ℕ → ℕ → List Outcome
+  given m q = outcomesBy t w (Unlock m q) (heldOf w p) (rowAt t w p)
+
+  pub not-held : (m q : ℕ) → hasOf (heldOf w p) m ≡ false → true ≡ rests t w (Unlock m q) (given m q)
+  unfolding rests outcomesBy onlyIf allOutcomes
   not-held m q e = rw e
 
   pub held : {b : Bool} (m q : ℕ) → hasOf (heldOf w p) m ≡ true → b ≡ rowWithinOf (sizesOf t .variables) (rowAt t w p) (restAt t w m)
-      → b ≡ rests t w (Unlock m q) p
-  unfolding rests
-  held m q e h = rw e h
+      → b ≡ rests t w (Unlock m q) (given m q)
+  unfolding rests outcomesBy onlyIf outcomeIf allOutcomes
+  held m q e h = rw (e, and-true (rowWithinOf (sizesOf t .variables) (rowAt t w p) (restAt t w m))) h
 
   -- ---- at a place: a point, or an entry
   pub rest-at-point : {b : Bool} → p < sizesOf t .points → b ≡ restPoint t w p → b ≡ rule16 t w p

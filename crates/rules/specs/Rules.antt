@@ -146,15 +146,16 @@ unfoldable pub rule15 : List ℤ → List ℤ → ℕ → Bool
 rule15 t w p = implies (reachedOf w p) (allBelow (undisturbed t w p) (entriesOf w))
 
 -- ---- 16 rest: 'an unlock outcome outside the mutex's rest row; else an entry without mutex m outside m's rest row', points first, then entries
-unfoldable pub rests : List ℤ → List ℤ → Point → ℕ → Bool
-rests t w End p = true
-rests t w (Assign v e q) p = true
-rests t w (Test c y n) p = true
-rests t w (Lock m q) p = true
-rests t w (Unlock m q) p = implies (hasOf (heldOf w p) m) (rowWithinOf (sizesOf t .variables) (rowAt t w p) (restAt t w m))
+-- by what stands at the point and its outcomes
+unfoldable pub rests : List ℤ → List ℤ → Point → List Outcome → Bool
+rests t w End l = true
+rests t w (Assign v e q) l = true
+rests t w (Test c y n) l = true
+rests t w (Lock m q) l = true
+rests t w (Unlock m q) l = allOutcomes (λ o. rowWithinOf (sizesOf t .variables) (o .row) (restAt t w m)) l
 
 unfoldable pub restPoint : List ℤ → List ℤ → ℕ → Bool
-restPoint t w p = implies (reachedOf w p) (rests t w (pointOf (pointsOf t) p) p)
+restPoint t w p = implies (reachedOf w p) (rests t w (pointOf (pointsOf t) p) (outcomesOf t w p))
 
 unfoldable pub restEntry : List ℤ → List ℤ → ℕ → Bool
 restEntry t w i = allBelow (λ m. implies (not (hasOf (headOf t w i 1) m)) (takes t w (restAt t w m) i)) (sizesOf t .mutexes)

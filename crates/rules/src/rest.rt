@@ -23,7 +23,8 @@ ghost use Rattle.table.specs.Layout.{sizesOf};
 ghost use Rattle.table.specs.Passes.{Passes};
 ghost use Rattle.table.specs.declared.Point.the-variants.{Unlock};
 ghost use Rattle.rules.specs.Held.{hasOf};
-ghost use Rattle.rules.specs.Proposal.{headOf, restAt};
+ghost use Rattle.rules.specs.Proposal.{heldOf, headOf, rowAt, restAt};
+ghost use Rattle.rules.specs.Outcomes.{outcomesBy};
 ghost use Rattle.rules.specs.Rules.{implies, takes, rests, restPoint, restEntry, rule16};
 ghost use Rattle.rules.specs.Ready.{Apart, Bounded};
 ghost use Rattle.rules.specs.Examine.{firstBadIn};
@@ -32,7 +33,7 @@ ghost use Rattle.rules.specs.Examine.{firstBadIn};
 fn unlock_rests<'a>(t: &'a [i32], w: &'a [i32], m: usize, q: usize, p: usize) -> bool
     requires { ⌜ Bounded (now t) (now w) ⌝ }
     requires { ⌜ (m < 8) × (p ≤ 4294967295) ⌝ }
-    ensures { λ r. ⌜ r ≡ rests (now (t .entry)) (now (w .entry)) (Unlock m q) p ⌝ }
+    ensures { λ r. ⌜ r ≡ rests (now (t .entry)) (now (w .entry)) (Unlock m q) (outcomesBy (now (t .entry)) (now (w .entry)) (Unlock m q) (heldOf (now (w .entry)) p) (rowAt (now (t .entry)) (now (w .entry)) p)) ⌝ }
 {
     if !has(held(w, p), m) {
         return true;

@@ -35,8 +35,8 @@ use Rattle.analysis.specs.declared.Row.{Row}
 use Rattle.analysis.specs.Rows.{Inside}
 use Rattle.rules.specs.Held.{hasOf, disjointOf}
 use Rattle.rules.specs.Proposal.{entriesOf, headsFrom, lowsFrom, heldWordOf, heldOf, reachedOf, headOf, rowAt, restAt, entryLow, entryHigh}
-use Rattle.rules.specs.Outcomes.{Outcome, rowWithinOf, writtenOf, outcomesOf}
-use Rattle.rules.specs.Rules.{minusOne, implies, heldInRange, rule9, holdsStart, isFirst, startPoint, rule11, heldFits, locksFit, rowsFit, rule12, rule13, files, filed, writes, rule14, takes, disturbs, undisturbed, rule15, rests, restPoint, restEntry, rule16}
+use Rattle.rules.specs.Outcomes.{Outcome, rowWithinOf, writtenOf, outcomeIf, onlyIf, outcomesBy, outcomesOf}
+use Rattle.rules.specs.Rules.{minusOne, implies, allOutcomes, heldInRange, rule9, holdsStart, isFirst, startPoint, rule11, heldFits, locksFit, rowsFit, rule12, rule13, files, filed, writes, rule14, takes, disturbs, undisturbed, rule15, rests, restPoint, restEntry, rule16}
 use Rattle.checker.specs.Laws.{Accepts}
 use Rattle.run.specs.State.{valuesOf}
 use Rattle.soundness.specs.Safe.{Reached}
@@ -177,11 +177,11 @@ module _ {t w : List ℤ} {room count : ℕ} (ok : Accepts t w room count) where
   -- 16
   pub unlock-within : (p m q : ℕ) → Reached t w p → pointOf (pointsOf t) p ≡ Unlock m q → hasOf (heldOf w p) m ≡ true
       → rowWithinOf (sizesOf t .variables) (rowAt t w p) (restAt t w m) ≡ true
-  unfolding rule16 restPoint rests
+  unfolding rule16 restPoint rests outcomesOf outcomesBy onlyIf outcomeIf allOutcomes
   unlock-within p m q r is n =
       let l = r .point in
-      let told = rw is at (implied (reachedOf w p) _ (low-place p (sizesOf t .points) _ _ (ok .rest p (omega arith)) l) (reached-test p r)) in
-      implied (hasOf (heldOf w p) m) _ told n
+      let told = implied (reachedOf w p) _ (low-place p (sizesOf t .points) _ _ (ok .rest p (omega arith)) l) (reached-test p r) in
+      and-left _ true (rw (is, n) at told)
 
   pub entry-takes : (i m : ℕ) → i < entriesOf w → m < sizesOf t .mutexes → hasOf (headOf t w i 1) m ≡ false → takes t w (restAt t w m) i ≡ true
   unfolding rule16 restEntry

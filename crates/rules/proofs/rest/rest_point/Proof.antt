@@ -9,6 +9,8 @@ use Rattle.table.specs.Decode.{pointOf}
 use Rattle.table.specs.declared.Point.{Point}
 use Rattle.table.specs.declared.Point.the-variants.{End, Assign, Test, Lock}
 use Rattle.words.proofs.Bools.{fails-not, holds-not}
+use Rattle.rules.specs.Proposal.{heldOf, rowAt}
+use Rattle.rules.specs.Outcomes.{outcomesBy}
 use Rattle.rules.specs.Rules.{rests, restPoint}
 use Rattle.rules.proofs.RestLaws.{unlock-below, not-reached, reached}
 use Rattle.rules.proofs.rest.rest_point.Statement.{statement}
@@ -20,7 +22,9 @@ read : (c : tie.After-point-at) → let start = c .before .before .before .befor
 read c = rw (c .before .point-words .ensures) at (c .point-at .ensures)
 
 at : (c : tie.After-point-at) {b : Bool} (x : Point) → let start = c .before .before .before .before .before .args in
-    c .point-at .result ≡ x → b ≡ rests (now (start .t)) (now (start .w)) x (start .p) → b ≡ restPoint (now (start .t)) (now (start .w)) (start .p)
+    c .point-at .result ≡ x
+    → b ≡ rests (now (start .t)) (now (start .w)) x (outcomesBy (now (start .t)) (now (start .w)) x (heldOf (now (start .w)) (start .p)) (rowAt (now (start .t)) (now (start .w)) (start .p)))
+    → b ≡ restPoint (now (start .t)) (now (start .w)) (start .p)
 at c x is q =
     let reach = c .before .before .before in
     let is-reached = holds-not (rw (reach .before .held .ensures .0) at (reach .is-reached .ensures)) (c .before .before .if1 .left) in
