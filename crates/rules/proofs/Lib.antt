@@ -3,6 +3,7 @@ pub mod ProposalLaws
 pub mod RowLaws
 pub mod PlaceLaws
 pub mod RangeLaws
+pub mod PartsLaws
 pub mod SomeLaws
 pub mod StartLaws
 pub mod HalvingLaws

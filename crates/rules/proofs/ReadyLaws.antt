@@ -1,19 +1,20 @@
 -- What stages that passed tell the stages after them: `Bounded` after 8, `Ready` after 11; what a point of a table that passed names; that the places
 -- of the whole table are ranges of numbers that fit; and which marks refusals 1 to 11 leave.
 -- Assumes nothing.
-use Prim.Native.Nat.{ℕ, _<_, _≤_}
+use Prim.Native.Nat.{ℕ, _+_, _<_, _≤_}
 use mathlib.Core.Path.{_≡_}
 use mathlib.Core.Bool.{true}
 use mathlib.Core.List.{List}
 use native.Mathlib.Omega.{arith}
-use borrow.Author.Tests.{leb-true}
+use borrow.Author.Tests.{leb-true, eqb-true}
 use lib.Dec.{lit<}
 use lib.IntN.{ℤ}
+use lib.ListN.{length}
 use Rattle.words.specs.declared.Found.the-variants.{Nothing}
 use Rattle.words.specs.declared.Stage.{Stage}
 use Rattle.words.specs.declared.Stage.the-variants.{Passed, Broken}
 use Rattle.words.specs.First.{firstBad}
-use Rattle.words.proofs.FirstLaws.{firstBad-none}
+use Rattle.words.proofs.FirstLaws.{firstBad-none, unless-nothing}
 use Rattle.words.proofs.StageLaws.{refuse-found, refuse-later, andThen-first, andThen-later}
 use Rattle.table.specs.Layout.{sizesOf, pointsOf}
 use Rattle.table.specs.Decode.{pointOf}
@@ -24,8 +25,8 @@ use Rattle.table.proofs.PassLaws.{passes}
 use Rattle.analysis.specs.Alarms.{markedOf}
 use Rattle.rules.specs.declared.Scope.{Scope}
 use Rattle.rules.specs.declared.Places.{Places}
-use Rattle.rules.specs.Proposal.{entriesOf}
-use Rattle.rules.specs.Rules.{rule8, rule10}
+use Rattle.rules.specs.Proposal.{entriesOf, intervalsOf, lowsFrom, proposalLength}
+use Rattle.rules.specs.Rules.{rule8, rule9, rule10}
 use Rattle.rules.specs.Alarms.{alarmsIn}
 use Rattle.rules.specs.Ready.{Bounded, Ready}
 use Rattle.rules.specs.Examine.{wholeOf, layoutStage, wordsStage, readyOf, marksBy, marksOf}
@@ -46,6 +47,14 @@ pub layout-bounded : {t w : List ℤ} → Passes t → layoutStage t w ≡ Passe
 unfolding layoutStage
 layout-bounded p e = bounded p (refuse-found 8 _ _ (refuse-later 7 _ _ e))
 
+layout-whole : (t w : List ℤ) → layoutStage t w ≡ Passed → length w ≡ proposalLength t w
+unfolding layoutStage
+layout-whole t w e = eqb-true _ _ (unless-nothing _ _ (refuse-found 7 _ _ (refuse-later 8 _ _ (refuse-later 7 _ _ e))))
+
+in-range : (t w : List ℤ) → wordsStage t w ≡ Passed → (i : ℕ) → i < lowsFrom t w + intervalsOf t w → rule9 t w i ≡ true
+unfolding wordsStage
+in-range t w e = firstBad-none (rule9 t w) (lowsFrom t w + intervalsOf t w) (refuse-found 9 _ _ e)
+
 ordered : (t w : List ℤ) → wordsStage t w ≡ Passed → (i : ℕ) → i < entriesOf w → rule10 t w i ≡ true
 unfolding wordsStage
 ordered t w e = firstBad-none (rule10 t w) (entriesOf w) (refuse-found 10 _ _ (refuse-later 9 _ _ e))
@@ -57,7 +66,7 @@ ready t w e =
     let later = andThen-later (validateOf t) _ e in
     let sized = andThen-first (layoutStage t w) _ later in
     let read = andThen-first (wordsStage t w) _ (andThen-later (layoutStage t w) _ later) in
-    record { bounded = layout-bounded table sized; passes = table; order = ordered t w read }
+    record { bounded = layout-bounded table sized; passes = table; whole = layout-whole t w sized; range = in-range t w read; order = ordered t w read }
 
 -- ---- a point of a table that passed: z is what the code reads there
 module _ {t : List ℤ} (table : Passes t) where
@@ -81,8 +90,15 @@ module _ {t w : List ℤ} {s : Scope} (e : s ≡ wholeOf t w) (b : Bounded t w) 
   pub rests-fit : Fit (s .rests)
   rests-fit = rw e (omega arith, omega (arith, b .points, b .mutexes))
 
-  pub entries-fit : Fit (s .entries)
-  entries-fit = rw e (omega arith, omega (arith, b .points, b .entries))
+  -- and end where the table and the proposal do
+  pub points-there : (s .points .from ≤ s .points .to) × (s .points .to ≤ sizesOf t .points)
+  points-there = rw e (omega arith, omega arith)
+
+  pub points-rest : (s .points .from ≤ s .points .to) × (s .points .to ≤ sizesOf t .points + entriesOf w)
+  points-rest = rw e (omega arith, omega arith)
+
+  pub entries-rest : (s .entries .from ≤ s .entries .to) × (s .entries .to ≤ sizesOf t .points + entriesOf w)
+  entries-rest = rw e (omega arith, omega arith)
 
 -- ---- marks
 pub marks-kept : (t w : List ℤ) (m : List ℕ) {v : Stage} {rule p : ℕ} → v ≡ readyOf t w → v ≡ Broken rule p → m ≡ marksOf t w m

@@ -1,14 +1,17 @@
 -- What the functions of this crate may count on, rule by rule: they are called in document 01's order.
 -- Assumes nothing.
-use Prim.Native.Nat.{ℕ, _<_, _≤_}
+use Prim.Native.Nat.{ℕ, _+_, _*_, _<_, _≤_}
 use mathlib.Core.Path.{_≡_}
 use mathlib.Core.Bool.{true}
 use mathlib.Core.List.{List}
 use lib.IntN.{ℤ}
+use lib.ListN.{length}
+use lib.Signed.{leZ}
+use Rattle.words.specs.Words.{wordOf, numberAt}
 use Rattle.table.specs.Layout.{sizesOf}
 use Rattle.table.specs.Passes.{Passes}
-use Rattle.rules.specs.Proposal.{entriesOf, headsOf, entriesAt}
-use Rattle.rules.specs.Rules.{rule10}
+use Rattle.rules.specs.Proposal.{entriesOf, intervalsOf, lowsFrom, proposalLength, headsOf, lowsOf, highsOf, entriesAt}
+use Rattle.rules.specs.Rules.{rule9, rule10}
 
 -- the sizes are within their limits: by refusals 2 and 8
 pub record Bounded (t w : List ℤ) : Type 0 where
@@ -25,8 +28,27 @@ pub record Apart (t w h from to : List ℤ) : Type 0 where
   pub lows : from ≡ entriesAt t w .lows
   pub highs : to ≡ entriesAt t w .highs
 
--- the table passed, and the entries' heads rise: by refusals 1 to 6 and 10
+-- so are the low and the high ends of all rows
+pub record Parts (t w h from to lows highs : List ℤ) : Type 0 where
+  pub apart : Apart t w h from to
+  pub row-lows : lows ≡ lowsOf t w
+  pub row-highs : highs ≡ highsOf t w
+
+-- entry i can be read where it lies: its words are there, its variable is one of the row, and its ends are in order
+pub record Readable (h from to lows highs : List ℤ) (i : ℕ) : Type 0 where
+  pub index : i ≤ 4294967295
+  pub head : 3 * i + 2 < length h
+  pub low : i < length from
+  pub high : i < length to
+  pub variable : numberAt h (3 * i + 2) < 4294967295
+  pub row-low : numberAt h (3 * i + 2) < length lows
+  pub row-high : numberAt h (3 * i + 2) < length highs
+  pub ordered : leZ (wordOf from i) (wordOf to i) ≡ true
+
+-- the table passed, the proposal is whole, its words are in range, and the entries' heads rise: by refusals 1 to 10
 pub record Ready (t w : List ℤ) : Type 0 where
   pub bounded : Bounded t w
   pub passes : Passes t
+  pub whole : length w ≡ proposalLength t w
+  pub range : (i : ℕ) → i < lowsFrom t w + intervalsOf t w → rule9 t w i ≡ true
   pub order : (i : ℕ) → i < entriesOf w → rule10 t w i ≡ true

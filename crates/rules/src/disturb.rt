@@ -10,17 +10,42 @@ use crate::proposal::held;
 use crate::proposal::is_reached;
 use crate::proposal::row_highs;
 use crate::proposal::row_lows;
-use analysis::rows::range;
-use interval::lattice::within;
 use table::layout::task_of;
 use words::Found;
 ghost use mathlib.Core.Path.{_≡_};
-ghost use mathlib.Core.Bool.{not};
-ghost use Prim.Native.Nat.{_≤_};
+ghost use mathlib.Core.Bool.{not, _&&_};
+ghost use Prim.Native.Nat.{_<_, _≤_};
+ghost use lib.ListN.{length};
+ghost use lib.Signed.{leZ};
+ghost use Rattle.words.specs.Words.{wordOf, numberOf};
+ghost use Rattle.table.specs.Layout.{sizesOf};
 ghost use Rattle.analysis.specs.Rows.{rowOf};
 ghost use Rattle.rules.specs.Rules.{implies, takes, disturbs, rule15};
-ghost use Rattle.rules.specs.Ready.{Apart, Bounded};
+ghost use Rattle.rules.specs.Ready.{Apart, Readable, Ready};
 ghost use Rattle.rules.specs.Examine.{firstBadIn};
+
+// The word at an index that is one.
+fn word_at(ws: &[i32], i: usize) -> i32
+    requires { ⌜ i < length (now ws) ⌝ }
+    ensures { λ r. ⌜ r ≡ wordOf (now (ws .entry)) i ⌝ }
+{
+    ws[i]
+}
+
+// A word that isn't below 0, as a number.
+fn natural(z: i32) -> usize
+    requires { ⌜ numberOf z < 4294967295 ⌝ }
+    ensures { λ r. ⌜ r ≡ numberOf z ⌝ }
+{
+    z as usize
+}
+
+// Whether a to b lies in lo to hi.
+fn is_inside(a: i32, b: i32, lo: i32, hi: i32) -> bool
+    ensures { λ r. ⌜ r ≡ leZ lo a && leZ b hi ⌝ }
+{
+    (lo <= a) & (b <= hi)
+}
 
 // Whether the row's interval holds entry i; the heads and the ends of the entries are at hand.
 pub(crate) fn is_taken<'a>(
@@ -34,13 +59,20 @@ pub(crate) fn is_taken<'a>(
     i: usize,
 ) -> bool
     requires { ⌜ Apart (now t) (now w) (now heads) (now from) (now to) ⌝ }
-    requires { ⌜ i ≤ 4294967295 ⌝ }
+    requires { ⌜ Readable (now heads) (now from) (now to) (now lows) (now highs) i ⌝ }
     ensures { λ r. ⌜ r ≡ takes (now (t .entry)) (now (w .entry)) (rowOf (now (lows .entry)) (now (highs .entry))) i ⌝ }
 {
-    within(range(from, to, i), range(lows, highs, head_in(heads, i, 2)))
+    let v = natural(word_at(heads, 3 * i + 2));
+    is_inside(
+        word_at(from, i),
+        word_at(to, i),
+        word_at(lows, v),
+        word_at(highs, v),
+    )
 }
 
-// Whether entry i is of another task than u, with a held set disjoint from s, and outside the row.
+// Whether entry i is outside the row, of another task than u, with a held set disjoint from s. Most entries lie within the row, so that is
+// asked first.
 fn is_disturbed<'a>(
     t: &'a [i32],
     w: &'a [i32],
@@ -54,21 +86,21 @@ fn is_disturbed<'a>(
     i: usize,
 ) -> bool
     requires { ⌜ Apart (now t) (now w) (now heads) (now from) (now to) ⌝ }
-    requires { ⌜ i ≤ 4294967295 ⌝ }
+    requires { ⌜ Readable (now heads) (now from) (now to) (now lows) (now highs) i ⌝ }
     ensures { λ r. ⌜ r ≡ not (implies (disturbs (now (t .entry)) (now (w .entry)) u s i) (takes (now (t .entry)) (now (w .entry)) (rowOf (now (lows .entry)) (now (highs .entry))) i)) ⌝ }
 {
+    if is_taken(t, w, heads, from, to, lows, highs, i) {
+        return false;
+    }
     if head_in(heads, i, 0) == u {
         return false;
     }
-    if !disjoint(head_in(heads, i, 1), s) {
-        return false;
-    }
-    !is_taken(t, w, heads, from, to, lows, highs, i)
+    disjoint(head_in(heads, i, 1), s)
 }
 
 pub(crate) fn first_disturbed<'a>(t: &'a [i32], w: &'a [i32], r: Places) -> Found
-    requires { ⌜ Bounded (now t) (now w) ⌝ }
-    requires { ⌜ (r .from ≤ r .to) × (r .to ≤ 4294967295) ⌝ }
+    requires { ⌜ Ready (now t) (now w) ⌝ }
+    requires { ⌜ (r .from ≤ r .to) × (r .to ≤ sizesOf (now t) .points) ⌝ }
     ensures { λ x. ⌜ x ≡ firstBadIn (rule15 (now (t .entry)) (now (w .entry))) r ⌝ }
 {
     let count = entries(w);

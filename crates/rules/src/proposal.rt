@@ -10,7 +10,7 @@ ghost use mathlib.Core.Path.{_≡_};
 ghost use mathlib.Core.Bool.{not};
 ghost use Prim.Native.Nat.{_+_, _*_, _≤_};
 ghost use lib.Dec.{eqb};
-ghost use Rattle.words.specs.Words.{numberAt};
+ghost use Rattle.words.specs.Words.{numberAt, partOf};
 ghost use Rattle.interval.specs.Interval.{fromTo};
 ghost use Rattle.rules.specs.Proposal.{entriesOf, intervalsOf, headsFrom, lowsFrom, heldOf, headsOf, headOf, lowsOf, highsOf, rowAt, entriesAt, entryLow, entryHigh};
 ghost use Rattle.rules.specs.Ready.{Bounded};
@@ -106,15 +106,21 @@ pub(crate) fn highs<'a>(t: &'a [i32], w: &'a [i32]) -> &'a [i32]
     part(w, from, count)
 }
 
+// Row k of the low or of the high ends.
+pub(crate) fn row_in(ends: &[i32], variables: usize, k: usize) -> &[i32]
+    requires { ⌜ (variables ≤ 4294967295) × (k ≤ 4294967295) ⌝ }
+    ensures { λ r. ⌜ now r ≡ partOf (now (ends .entry)) (k * variables) variables ⌝ }
+{
+    part(ends, k * variables, variables)
+}
+
 // The low ends of row k.
 pub(crate) fn row_lows<'a>(t: &'a [i32], w: &'a [i32], k: usize) -> &'a [i32]
     requires { ⌜ Bounded (now t) (now w) ⌝ }
     requires { ⌜ k ≤ 4294967295 ⌝ }
     ensures { λ r. ⌜ now r ≡ rowAt (now (t .entry)) (now (w .entry)) k .lows ⌝ }
 {
-    let count = number_at(t, 1);
-    let from = k * count;
-    part(lows(t, w), from, count)
+    row_in(lows(t, w), number_at(t, 1), k)
 }
 
 pub(crate) fn row_highs<'a>(t: &'a [i32], w: &'a [i32], k: usize) -> &'a [i32]
@@ -122,9 +128,7 @@ pub(crate) fn row_highs<'a>(t: &'a [i32], w: &'a [i32], k: usize) -> &'a [i32]
     requires { ⌜ k ≤ 4294967295 ⌝ }
     ensures { λ r. ⌜ now r ≡ rowAt (now (t .entry)) (now (w .entry)) k .highs ⌝ }
 {
-    let count = number_at(t, 1);
-    let from = k * count;
-    part(highs(t, w), from, count)
+    row_in(highs(t, w), number_at(t, 1), k)
 }
 
 // The low ends of the entries.

@@ -7,8 +7,11 @@ use crate::proposal::entry_lows;
 use crate::proposal::head_in;
 use crate::proposal::heads;
 use crate::proposal::held;
+use crate::proposal::highs;
 use crate::proposal::is_reached;
+use crate::proposal::lows;
 use crate::proposal::row_highs;
+use crate::proposal::row_in;
 use crate::proposal::row_lows;
 use crate::rows::row_within;
 use table::Point;
@@ -18,15 +21,15 @@ use words::Found;
 use words::number_at;
 ghost use mathlib.Core.Path.{_≡_};
 ghost use mathlib.Core.Bool.{not};
-ghost use Prim.Native.Nat.{_<_, _≤_};
+ghost use Prim.Native.Nat.{_+_, _<_, _≤_};
 ghost use Rattle.table.specs.Layout.{sizesOf};
 ghost use Rattle.table.specs.Passes.{Passes};
 ghost use Rattle.table.specs.declared.Point.the-variants.{Unlock};
 ghost use Rattle.rules.specs.Held.{hasOf};
-ghost use Rattle.rules.specs.Proposal.{heldOf, headOf, rowAt, restAt};
+ghost use Rattle.rules.specs.Proposal.{entriesOf, heldOf, headOf, rowAt, restAt};
 ghost use Rattle.rules.specs.Outcomes.{outcomesBy};
 ghost use Rattle.rules.specs.Rules.{implies, takes, rests, restPoint, restEntry, rule16};
-ghost use Rattle.rules.specs.Ready.{Apart, Bounded};
+ghost use Rattle.rules.specs.Ready.{Bounded, Parts, Ready};
 ghost use Rattle.rules.specs.Examine.{firstBadIn};
 
 // An unlock of m at the point p.
@@ -74,17 +77,20 @@ fn rests_at<'a>(
     heads: &'a [i32],
     from: &'a [i32],
     to: &'a [i32],
+    lows: &'a [i32],
+    highs: &'a [i32],
     i: usize,
     m: usize,
 ) -> bool
-    requires { ⌜ Bounded (now t) (now w) ⌝ }
-    requires { ⌜ Apart (now t) (now w) (now heads) (now from) (now to) ⌝ }
-    requires { ⌜ (m < 8) × (i ≤ 4294967295) ⌝ }
+    requires { ⌜ Ready (now t) (now w) ⌝ }
+    requires { ⌜ Parts (now t) (now w) (now heads) (now from) (now to) (now lows) (now highs) ⌝ }
+    requires { ⌜ (i < entriesOf (now w)) × (m < sizesOf (now t) .mutexes) ⌝ }
     ensures { λ r. ⌜ r ≡ implies (not (hasOf (headOf (now (t .entry)) (now (w .entry)) i 1) m)) (takes (now (t .entry)) (now (w .entry)) (restAt (now (t .entry)) (now (w .entry)) m) i) ⌝ }
 {
     if has(head_in(heads, i, 1), m) {
         return true;
     }
+    let variables = number_at(t, 1);
     let rest = number_at(t, 3) + m;
     is_taken(
         t,
@@ -92,24 +98,31 @@ fn rests_at<'a>(
         heads,
         from,
         to,
-        row_lows(t, w, rest),
-        row_highs(t, w, rest),
+        row_in(lows, variables, rest),
+        row_in(highs, variables, rest),
         i,
     )
 }
 
-fn rest_entry<'a>(t: &'a [i32], w: &'a [i32], i: usize) -> bool
-    requires { ⌜ Bounded (now t) (now w) ⌝ }
-    requires { ⌜ i ≤ 4294967295 ⌝ }
+fn rest_entry<'a>(
+    t: &'a [i32],
+    w: &'a [i32],
+    heads: &'a [i32],
+    from: &'a [i32],
+    to: &'a [i32],
+    lows: &'a [i32],
+    highs: &'a [i32],
+    i: usize,
+) -> bool
+    requires { ⌜ Ready (now t) (now w) ⌝ }
+    requires { ⌜ Parts (now t) (now w) (now heads) (now from) (now to) (now lows) (now highs) ⌝ }
+    requires { ⌜ i < entriesOf (now w) ⌝ }
     ensures { λ r. ⌜ r ≡ restEntry (now (t .entry)) (now (w .entry)) i ⌝ }
 {
     let mutexes = number_at(t, 2);
-    let all = heads(t, w);
-    let from = entry_lows(t, w);
-    let to = entry_highs(t, w);
     let mut m = 0;
     while m < mutexes {
-        if !rests_at(t, w, all, from, to, i, m) {
+        if !rests_at(t, w, heads, from, to, lows, highs, i, m) {
             return false;
         }
         m += 1;
@@ -118,28 +131,41 @@ fn rest_entry<'a>(t: &'a [i32], w: &'a [i32], i: usize) -> bool
 }
 
 // Refusal 16 at a place: a point, or points + entry.
-fn rest_ok<'a>(t: &'a [i32], w: &'a [i32], place: usize) -> bool
-    requires { ⌜ Passes (now t) ⌝ }
-    requires { ⌜ Bounded (now t) (now w) ⌝ }
-    requires { ⌜ place ≤ 4294967295 ⌝ }
+fn rest_ok<'a>(
+    t: &'a [i32],
+    w: &'a [i32],
+    heads: &'a [i32],
+    from: &'a [i32],
+    to: &'a [i32],
+    lows: &'a [i32],
+    highs: &'a [i32],
+    place: usize,
+) -> bool
+    requires { ⌜ Ready (now t) (now w) ⌝ }
+    requires { ⌜ Parts (now t) (now w) (now heads) (now from) (now to) (now lows) (now highs) ⌝ }
+    requires { ⌜ place < sizesOf (now t) .points + entriesOf (now w) ⌝ }
     ensures { λ r. ⌜ r ≡ rule16 (now (t .entry)) (now (w .entry)) place ⌝ }
 {
     let points = number_at(t, 3);
     if place < points {
         return rest_point(t, w, place);
     }
-    rest_entry(t, w, place - points)
+    rest_entry(t, w, heads, from, to, lows, highs, place - points)
 }
 
 pub(crate) fn first_rest<'a>(t: &'a [i32], w: &'a [i32], r: Places) -> Found
-    requires { ⌜ Passes (now t) ⌝ }
-    requires { ⌜ Bounded (now t) (now w) ⌝ }
-    requires { ⌜ (r .from ≤ r .to) × (r .to ≤ 4294967295) ⌝ }
+    requires { ⌜ Ready (now t) (now w) ⌝ }
+    requires { ⌜ (r .from ≤ r .to) × (r .to ≤ sizesOf (now t) .points + entriesOf (now w)) ⌝ }
     ensures { λ x. ⌜ x ≡ firstBadIn (rule16 (now (t .entry)) (now (w .entry))) r ⌝ }
 {
+    let all = heads(t, w);
+    let from = entry_lows(t, w);
+    let to = entry_highs(t, w);
+    let low = lows(t, w);
+    let high = highs(t, w);
     let mut place = r.from;
     while place < r.to {
-        if !rest_ok(t, w, place) {
+        if !rest_ok(t, w, all, from, to, low, high, place) {
             return Found::At(place);
         }
         place += 1;

@@ -62,7 +62,7 @@ unfolding orElse
 then-nothing Nothing b e = e
 then-nothing (At p) b e = let z : _≡_ {A = ℕ} 0 1 = cc in absurd (omega arith)
 
-unless-nothing : (b : Bool) (p : ℕ) → unless b p ≡ Nothing → b ≡ true
+pub unless-nothing : (b : Bool) (p : ℕ) → unless b p ≡ Nothing → b ≡ true
 unfolding unless
 unless-nothing true p e = refl
 unless-nothing false p e = let z : _≡_ {A = ℕ} 0 1 = cc in absurd (omega arith)

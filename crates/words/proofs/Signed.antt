@@ -4,7 +4,7 @@ use mathlib.Core.Path.{_≡_, refl, sym, subst}
 use mathlib.Core.Bool.{Bool, true, false}
 use Prim.Native.Nat.{_<_, _≤_, _^_}
 use native.Mathlib.Omega.{arith}
-use borrow.Author.Tests.{ltb-true}
+use borrow.Author.Tests.{ltb-true, le-ltb}
 use lib.Dec.{T}
 use lib.IntN.{ℤ, pos, negsuc, natAbs}
 use lib.Signed.{mag, ltZ, nonNeg}
@@ -50,3 +50,15 @@ pub number-bound : (z : ℤ) → SFits w32 z → numberOf z ≤ 4294967295
 unfolding numberOf
 number-bound (pos n) f = let b : n < 2 ^ 31 = f .sfits in omega arith
 number-bound (negsuc n) f = omega arith
+
+-- a word whose number isn't that of the negative ones isn't negative
+not-negative : (z : ℤ) → numberOf z < 4294967295 → ltZ z (pos 0) ≡ false
+unfolding numberOf
+not-negative (pos n) l = le-ltb n 0 (omega arith)
+not-negative (negsuc n) l = absurd (omega arith)
+
+pub natural-is : (z : ℤ) → SFits w32 z → numberOf z < 4294967295 → natAbs (toZ w32 (ofZ w32 z)) ≡ numberOf z
+natural-is z f l = rw (toZ-ofZ f) (not-below z (not-negative z l))
+
+pub natural-casts : (z : ℤ) → SFits w32 z → numberOf z < 4294967295 → T (nonNeg (toZ w32 (ofZ w32 z))) × Fits w64 (natAbs (toZ w32 (ofZ w32 z)))
+natural-casts z f l = rw (toZ-ofZ f) (casts z f (not-negative z l))

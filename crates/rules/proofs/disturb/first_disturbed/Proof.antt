@@ -13,7 +13,9 @@ use Rattle.words.proofs.Bools.{holds, fails, fails-not, holds-not}
 use Rattle.words.proofs.FirstLaws.{Checked, check, checks, checked, fails-at}
 use Rattle.analysis.specs.Rows.{rowOf}
 use Rattle.rules.specs.Rules.{rule15}
+use Rattle.rules.specs.Ready.{Apart}
 use Rattle.rules.proofs.DisturbLaws.{leaves, not-reached, reached}
+use Rattle.rules.proofs.PartsLaws.{readable}
 use Rattle.rules.proofs.PlaceLaws.{Sought, seek, seeks, sought, unfound}
 use Rattle.rules.proofs.disturb.first_disturbed.Statement.{statement}
 use Rattle.rules.proofs.disturb.first_disturbed.Tie as tie
@@ -34,9 +36,14 @@ abbrev μ-pairs : tie.MeasureT-pairs
 abbrev to-count : tie.After-entry-highs Inv-loop μ-loop Inv-pairs μ-pairs → tie.After-entries Inv-loop μ-loop Inv-pairs μ-pairs
 to-count c = c .before .before .before
 
+-- the parts that were cut
+at-hand : (c : tie.After-entry-highs Inv-loop μ-loop Inv-pairs μ-pairs) → let lows = c .before in let heads = lows .before in let a = to-count c .before .args in
+    Apart (now (a .t)) (now (a .w)) (now (heads .heads .result)) (now (lows .entry-lows .result)) (now (c .entry-highs .result))
+at-hand c = let lows = c .before in record { heads = lows .before .heads .ensures; lows = lows .entry-lows .ensures; highs = c .entry-highs .ensures }
+
 -- p and i are numbers that a word can hold
 point-below : (c : tie.In-pairs Inv-loop μ-loop Inv-pairs μ-pairs) → c .before .pairs .p ≤ 4294967295
-point-below c = omega (arith, c .pairs-test .taken, to-count (c .before .before) .before .pre .1 .1)
+point-below c = let pre = to-count (c .before .before) .before .pre in omega (arith, c .pairs-test .taken, pre .1 .1, pre .0 .bounded .points)
 
 pairs-again : tie.Need-pairs-again Inv-loop μ-loop Inv-pairs μ-pairs
 pairs-again c =
@@ -49,17 +56,23 @@ pairs-again c =
     )
 
 row-lows-requires : tie.Need-row-lows-requires Inv-loop μ-loop Inv-pairs μ-pairs
-row-lows-requires c κs = let turn = c .before .before .before .before in (to-count (turn .before .before) .before .pre .0, point-below turn)
+row-lows-requires c κs =
+    let turn = c .before .before .before .before in (to-count (turn .before .before) .before .pre .0 .bounded, point-below turn)
 
 row-highs-requires : tie.Need-row-highs-requires Inv-loop μ-loop Inv-pairs μ-pairs
-row-highs-requires c κs = let turn = c .before .before .before .before .before in (to-count (turn .before .before) .before .pre .0, point-below turn)
+row-highs-requires c κs =
+    let turn = c .before .before .before .before .before in (to-count (turn .before .before) .before .pre .0 .bounded, point-below turn)
 
 is-disturbed-requires : tie.Need-is-disturbed-requires Inv-loop μ-loop Inv-pairs μ-pairs
 is-disturbed-requires c κs =
-    let highs = c .before .before .before .before .before .before .before .before .before .before in
-    let lows = highs .before in (
-      record { heads = lows .before .heads .ensures; lows = lows .entry-lows .ensures; highs = highs .entry-highs .ensures },
-      omega (arith, c .loop-test .taken, to-count highs .entries .ensures .1),
+    let row = c .before .before in
+    let turn = row .before .before .before .before .before .before in
+    let highs = turn .before .before in
+    let start = to-count highs .before in
+    let apart = at-hand highs in (
+      apart,
+      readable (start .pre .0) _ _ apart (row .before .row-lows .ensures) (row .row-highs .ensures) (omega (arith, turn .pairs-test .taken, start .pre .1 .1))
+          (rw (to-count highs .entries .ensures .0) at (c .loop-test .taken)),
     )
 
 loop-again : tie.Need-loop-again Inv-loop μ-loop Inv-pairs μ-pairs

@@ -8,7 +8,7 @@ use Rattle.words.specs.Stages.{refuse}
 use Rattle.words.proofs.StageLaws.{pass, halt}
 use Rattle.rules.specs.Rules.{rule15, rule16}
 use Rattle.rules.specs.Examine.{wholeOf, firstBadIn, sharedStage}
-use Rattle.rules.proofs.ReadyLaws.{points-fit, entries-fit}
+use Rattle.rules.proofs.ReadyLaws.{points-there, points-rest, entries-rest}
 use Rattle.rules.proofs.examine.shared.Statement.{statement}
 use Rattle.rules.proofs.examine.shared.Tie as tie
 
@@ -54,21 +54,21 @@ shared-spec =
     tie.close
     (tie.spec
     (λ c κs. search needs)
-    (λ c κs. let whole = c .before .before in let b = whole .before .pre .bounded in (b, points-fit (whole .whole .ensures) b))
+    (λ c κs. let whole = c .before .before in let pre = whole .before .pre in (pre, points-there (whole .whole .ensures) (pre .bounded)))
     (λ c. search needs)
     (λ c. halt _ (sym (disturbed-searched (c .before .before .before)) ∙ c .before .p .given .1))
     (λ c. search needs)
     (λ c κs.
     let whole = to-whole c in
     let pre = whole .before .pre in
-    (pre .passes, (pre .bounded, points-fit (whole .whole .ensures) (pre .bounded))))
+    (pre, points-rest (whole .whole .ensures) (pre .bounded)))
     (λ c. search needs)
     (λ c. let rest = c .before .before .before in passed15 (rest .before) (halt _ (sym (rest-searched rest) ∙ c .before .p2 .given .1)))
     (λ c. search needs)
     (λ c κs.
     let whole = to-whole (to-disturbed c) in
     let pre = whole .before .pre in
-    (pre .passes, (pre .bounded, entries-fit (whole .whole .ensures) (pre .bounded))))
+    (pre, entries-rest (whole .whole .ensures) (pre .bounded)))
     (λ c. search needs)
     (λ c. let rest = c .before .before .before in passed16 (rest .before) (halt _ (sym (entries-searched rest) ∙ c .before .p3 .given .1)))
     (λ c. search needs)

@@ -2,7 +2,6 @@
 -- Assumes nothing.
 use Prim.Native.Nat.{_-_}
 use mathlib.Core.Path.{sym}
-use native.Mathlib.Omega.{arith}
 use borrow.Author.Needs.{needs}
 use Rattle.words.proofs.Bools.{fails-not, holds-not}
 use Rattle.words.proofs.FirstLaws.{Checked, check, checks, checked, fails-at}
@@ -12,33 +11,22 @@ use Rattle.rules.proofs.rest.rest_entry.Statement.{statement}
 use Rattle.rules.proofs.rest.rest_entry.Tie as tie
 
 abbrev Inv-loop : tie.InvT-loop
-Inv-loop t w i mutexes all from to m₀ m = Checked (entryRests t w i) mutexes m
+Inv-loop t w heads from to lows highs i mutexes m₀ m = Checked (entryRests t w i) mutexes m
 
 abbrev μ-loop : tie.MeasureT-loop
-μ-loop t w i mutexes all from to m₀ m = mutexes - m
-
--- to where the mutexes were counted
-abbrev to-count : tie.After-entry-highs Inv-loop μ-loop → tie.After-number-at Inv-loop μ-loop
-to-count c = c .before .before .before
+μ-loop t w heads from to lows highs i mutexes m₀ m = mutexes - m
 
 rests-at-requires : tie.Need-rests-at-requires Inv-loop μ-loop
 rests-at-requires c κs =
-    let highs = c .before .before in
-    let lows = highs .before in
-    let mutexes = to-count highs in
-    let pre = mutexes .before .pre in (
-      pre .0,
-      (
-        record { heads = lows .before .heads .ensures; lows = lows .entry-lows .ensures; highs = highs .entry-highs .ensures },
-        (omega (arith, c .loop-test .taken, mutexes .number-at .ensures .0, pre .0 .mutexes), pre .1),
-      ),
-    )
+    let mutexes = c .before .before in
+    let pre = mutexes .before .pre in
+    (pre .0, (pre .1 .0, (pre .1 .1, rw (mutexes .number-at .ensures .0) at (c .loop-test .taken))))
 
 returns : tie.Need-returns Inv-loop μ-loop
 unfolding restEntry
 returns c =
     let turn = c .before .before in
-    rw (sym (to-count (turn .before .before) .number-at .ensures .0))
+    rw (sym (turn .before .before .number-at .ensures .0))
     (sym (fails-at _ _ _ (turn .loop-test .taken) (fails-not {b = entryRests _ _ _ _} (c .before .rests-at .ensures) (c .if1 .taken))))
 
 loop-again : tie.Need-loop-again Inv-loop μ-loop
@@ -48,7 +36,7 @@ loop-again c =
 
 returns-2 : tie.Need-returns-2 Inv-loop μ-loop
 unfolding restEntry
-returns-2 c = rw (sym (to-count (c .before .before) .number-at .ensures .0)) (sym (checked (c .before .loop .inv) (c .loop-test .left)))
+returns-2 c = rw (sym (c .before .before .number-at .ensures .0)) (sym (checked (c .before .loop .inv) (c .loop-test .left)))
 
 pub rest-entry-spec : {M : Type 1} → statement M
 rest-entry-spec =
@@ -56,9 +44,6 @@ rest-entry-spec =
     (tie.spec
     Inv-loop
     μ-loop
-    (λ c κs. search needs)
-    (λ c κs. search needs)
-    (λ c κs. search needs)
     (λ c κs. search needs)
     (λ c. check)
     rests-at-requires

@@ -1,4 +1,5 @@
 -- `rules::rest::rest_ok` meets its contract: a place below the points is a point, and any other is an entry. Assumes nothing.
+use native.Mathlib.Omega.{arith}
 use borrow.Author.Needs.{needs}
 use Rattle.rules.proofs.RestLaws.{rest-at-point, rest-at-entry}
 use Rattle.rules.proofs.rest.rest_ok.Statement.{statement}
@@ -8,6 +9,12 @@ returns : tie.Need-returns
 returns c =
     let points = c .before .before in
     rest-at-point _ _ _ (rw (points .number-at .ensures .0) at (c .before .if1 .taken)) (c .rest-point .ensures)
+
+entry-requires : tie.Need-rest-entry-requires
+entry-requires c κs =
+    let points = c .before in
+    let pre = points .before .pre in
+    (pre .0, (pre .1 .0, omega (arith, points .number-at .ensures .0, c .if1 .left, pre .1 .1)))
 
 returns-2 : tie.Need-returns-2
 returns-2 c =
@@ -22,5 +29,5 @@ rest-ok-spec =
     (λ c κs. search needs)
     (λ c κs. search needs)
     returns
-    (λ c κs. search needs)
+    entry-requires
     returns-2)

@@ -1,0 +1,99 @@
+-- What refusals 7 and 9 leave of a proposal: its parts are whole, its heads are in range, its ends in order, so that an entry can be read where it lies.
+-- Assumes nothing.
+use Prim.Native.Nat.{ℕ, _+_, _-_, _*_, _%_, _<_, _≤_}
+use mathlib.Core.Path.{_≡_, refl, sym, ap, _∙_}
+use mathlib.Core.Bool.{true}
+use mathlib.Core.List.{List}
+use native.Mathlib.Nat.{mul-le-mul-right, suc-mul, mul-add-mod-self-left}
+use native.Mathlib.Omega.{arith}
+use borrow.Author.Tests.{lt-ltb, le-ltb, ltb-true}
+use lib.IntN.{ℤ}
+use lib.ListN.{length}
+use lib.Signed.{leZ}
+use Rattle.words.specs.Words.{wordOf, numberOf, numberAt}
+use Rattle.words.proofs.PartLaws.{part-word, part-length}
+use Rattle.table.specs.Layout.{sizesOf}
+use Rattle.rules.specs.Proposal.{rowsOf, entriesOf, intervalsOf, headsFrom, lowsFrom, proposalLength, headsOf, headOf, lowsOf, highsOf, rowAt, entriesAt}
+use Rattle.rules.specs.Rules.{headInRange, rule9}
+use Rattle.rules.specs.Ready.{Apart, Readable, Ready}
+
+module _ {t w : List ℤ} (r : Ready t w) where
+  -- ---- how long the parts are
+  pub heads-length : length (headsOf t w) ≡ 3 * entriesOf w
+  unfolding headsOf proposalLength lowsFrom
+  heads-length = part-length w (headsFrom t) (3 * entriesOf w) (rw (r .whole) (omega arith))
+
+  lows-length : length (lowsOf t w) ≡ intervalsOf t w
+  unfolding lowsOf proposalLength
+  lows-length = part-length w (lowsFrom t w) (intervalsOf t w) (rw (r .whole) (omega arith))
+
+  highs-length : length (highsOf t w) ≡ intervalsOf t w
+  unfolding highsOf proposalLength
+  highs-length = part-length w (lowsFrom t w + intervalsOf t w) (intervalsOf t w) (rw (r .whole) (omega arith))
+
+  entry-lows-length : length (entriesAt t w .lows) ≡ entriesOf w
+  unfolding entriesAt intervalsOf
+  entry-lows-length = part-length (lowsOf t w) (rowsOf t * sizesOf t .variables) (entriesOf w) (rw lows-length (omega arith))
+
+  entry-highs-length : length (entriesAt t w .highs) ≡ entriesOf w
+  unfolding entriesAt intervalsOf
+  entry-highs-length = part-length (highsOf t w) (rowsOf t * sizesOf t .variables) (entriesOf w) (rw highs-length (omega arith))
+
+  -- row k ends before the entries
+  row-room : (k : ℕ) → k < rowsOf t → k * sizesOf t .variables + sizesOf t .variables ≤ intervalsOf t w
+  unfolding intervalsOf
+  row-room k l = let below = mul-le-mul-right (sizesOf t .variables) l in omega (arith, suc-mul k (sizesOf t .variables))
+
+  row-lows-length : (k : ℕ) → k < rowsOf t → length (rowAt t w k .lows) ≡ sizesOf t .variables
+  unfolding rowAt
+  row-lows-length k l = part-length (lowsOf t w) (k * sizesOf t .variables) (sizesOf t .variables) (rw lows-length (row-room k l))
+
+  row-highs-length : (k : ℕ) → k < rowsOf t → length (rowAt t w k .highs) ≡ sizesOf t .variables
+  unfolding rowAt
+  row-highs-length k l = part-length (highsOf t w) (k * sizesOf t .variables) (sizesOf t .variables) (rw highs-length (row-room k l))
+
+  -- ---- refusal 9 at the variable of an entry's head, and at its ends
+  head-variable : (i : ℕ) → i < entriesOf w → headOf t w i 2 < sizesOf t .variables
+  unfolding rule9 headOf headsOf headsFrom lowsFrom headInRange
+  head-variable i l =
+      let at = headsFrom t + (3 * i + 2) in
+      let there : headsFrom t + (3 * i + 2) - headsFrom t ≡ 3 * i + 2 = omega arith in
+      let told = rw (
+        le-ltb at 4 (omega arith),
+        le-ltb at (headsFrom t) (omega arith),
+        lt-ltb at (lowsFrom t w) (omega arith),
+        there,
+        mul-add-mod-self-left 3 i 2,
+      ) at (r .range at (omega arith)) in
+      rw (part-word w (headsFrom t) (3 * entriesOf w) (3 * i + 2) (omega arith)) (ltb-true _ _ told)
+
+  entry-ordered : (i : ℕ) → i < entriesOf w → leZ (wordOf (entriesAt t w .lows) i) (wordOf (entriesAt t w .highs) i) ≡ true
+  unfolding rule9 entriesAt headsFrom lowsFrom intervalsOf
+  entry-ordered i l =
+      let rows = rowsOf t * sizesOf t .variables in
+      let at = lowsFrom t w + (rows + i) in
+      let there : lowsFrom t w + (rows + i) - lowsFrom t w ≡ rows + i = omega arith in
+      let told = rw (
+        le-ltb at 4 (omega arith),
+        le-ltb at (headsFrom t) (omega arith),
+        le-ltb at (lowsFrom t w) (omega arith),
+        there,
+      ) at (r .range at (omega arith)) in
+      rw (part-word (lowsOf t w) rows (entriesOf w) i l, part-word (highsOf t w) rows (entriesOf w) i l) told
+
+  -- ---- an entry against row k
+  pub readable : {h from to lows highs : List ℤ} (k i : ℕ) → Apart t w h from to → lows ≡ rowAt t w k .lows → highs ≡ rowAt t w k .highs
+      → k < rowsOf t → i < entriesOf w → Readable h from to lows highs i
+  unfolding headOf
+  readable k i a low high lk li =
+      let v = head-variable i li in
+      record {
+        index = omega (arith, r .bounded .entries);
+        head = rw (a .heads, heads-length) (omega arith);
+        low = rw (a .lows, entry-lows-length) li;
+        high = rw (a .highs, entry-highs-length) li;
+        variable = rw (a .heads) (omega (arith, r .bounded .variables));
+        row-low = rw (a .heads, low, row-lows-length k lk) v;
+        row-high = rw (a .heads, high, row-highs-length k lk) v;
+        ordered = rw (a .lows, a .highs) (entry-ordered i li);
+      }
