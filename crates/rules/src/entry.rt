@@ -3,6 +3,7 @@ use crate::order::before;
 use crate::proposal::entries;
 use crate::proposal::entry_range;
 use crate::proposal::head;
+use crate::proposal::heads;
 use interval::Interval;
 use interval::lattice::within;
 use words::Found;
@@ -19,11 +20,12 @@ fn find<'a>(t: &'a [i32], w: &'a [i32], u: usize, s: usize, v: usize) -> Found
     ensures { λ r. ⌜ r ≡ firstBad (λ i. beforeOf (now (t .entry)) (now (w .entry)) i u s v) (entriesOf (now (w .entry))) ⌝ }
 {
     let count = entries(w);
+    let all = heads(t, w);
     let mut low = 0;
     let mut high = count;
     while low < high {
         let middle = low + (high - low) / 2;
-        if before(t, w, middle, u, s, v) {
+        if before(t, w, all, middle, u, s, v) {
             low = middle + 1;
         } else {
             high = middle;
@@ -49,13 +51,14 @@ fn files_at<'a>(
     requires { ⌜ i ≤ 4294967295 ⌝ }
     ensures { λ r. ⌜ r ≡ files (now (t .entry)) (now (w .entry)) u s v x i ⌝ }
 {
-    if head(t, w, i, 0) != u {
+    let all = heads(t, w);
+    if head(t, w, all, i, 0) != u {
         return false;
     }
-    if head(t, w, i, 1) != s {
+    if head(t, w, all, i, 1) != s {
         return false;
     }
-    if head(t, w, i, 2) != v {
+    if head(t, w, all, i, 2) != v {
         return false;
     }
     within(x, entry_range(t, w, i))

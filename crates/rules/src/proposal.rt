@@ -62,13 +62,14 @@ pub(crate) fn head_in(heads: &[i32], i: usize, k: usize) -> usize
     number_at(heads, 3 * i + k)
 }
 
-// The same where the heads are not at hand.
-pub(crate) fn head<'a>(t: &'a [i32], w: &'a [i32], i: usize, k: usize) -> usize
+// The same, of the heads of the proposal w.
+pub(crate) fn head<'a>(t: &'a [i32], w: &'a [i32], heads: &'a [i32], i: usize, k: usize) -> usize
+    requires { ⌜ now heads ≡ headsOf (now t) (now w) ⌝ }
     requires { ⌜ (i ≤ 4294967295) × (k ≤ 2) ⌝ }
     ensures { λ r. ⌜ r ≡ headOf (now (t .entry)) (now (w .entry)) i k ⌝ }
     ensures { λ r. ⌜ r ≤ 4294967295 ⌝ }
 {
-    head_in(heads(t, w), i, k)
+    head_in(heads, i, k)
 }
 
 pub(crate) fn lows_from<'a>(t: &'a [i32], w: &'a [i32]) -> usize

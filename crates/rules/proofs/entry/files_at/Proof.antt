@@ -23,6 +23,7 @@ files-at-spec =
     tie.close
     (tie.spec
     (λ c κs. search needs)
+    (λ c κs. search needs)
     (λ c. sym (not-headed _ _ _ _ _ _ _ (λ h. c .if1 .taken (c .before .head .ensures .0 ∙ h .task))))
     (λ c κs. search needs)
     (λ c. sym (not-headed _ _ _ _ _ _ _ (λ h. c .if2 .taken (c .before .head2 .ensures .0 ∙ h .set))))

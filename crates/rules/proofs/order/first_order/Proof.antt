@@ -9,15 +9,15 @@ use Rattle.rules.proofs.order.first_order.Statement.{statement}
 use Rattle.rules.proofs.order.first_order.Tie as tie
 
 abbrev Inv-loop : tie.InvT-loop
-Inv-loop t w count i₀ i = Searched (rule10 t w) count i
+Inv-loop t w count all i₀ i = Searched (rule10 t w) count i
 
 abbrev μ-loop : tie.MeasureT-loop
-μ-loop t w count i₀ i = count - i
+μ-loop t w count all i₀ i = count - i
 
 returns : tie.Need-returns Inv-loop μ-loop
 returns c =
     let turn = c .before .before in
-    rw (← turn .before .before .entries .ensures .0)
+    rw (← turn .before .before .before .entries .ensures .0)
     (stop (turn .before .loop .inv) (turn .loop-test .taken) (fails-not (c .before .order-ok .ensures) (c .if1 .taken)))
 
 loop-again : tie.Need-loop-again Inv-loop μ-loop
@@ -32,10 +32,11 @@ first-order-spec =
     Inv-loop
     μ-loop
     (λ c κs. search needs)
+    (λ c κs. search needs)
     (λ c. start)
     (λ c κs. search needs)
     returns
     (λ c. search needs)
     (λ c. search needs)
     loop-again
-    (λ c. rw (← c .before .before .entries .ensures .0) (done (c .before .loop .inv) (c .loop-test .left))))
+    (λ c. rw (← c .before .before .before .entries .ensures .0) (done (c .before .loop .inv) (c .loop-test .left))))

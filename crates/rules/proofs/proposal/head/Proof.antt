@@ -6,9 +6,4 @@ use Rattle.rules.proofs.proposal.head.Tie as tie
 
 pub head-spec : {M : Type 1} → statement M
 unfolding headOf
-head-spec =
-    tie.close
-    (tie.spec
-    (λ c κs. search needs)
-    (λ c κs. search needs)
-    (λ c. (rw (← c .before .heads .ensures) (c .head-in .ensures .0), c .head-in .ensures .1)))
+head-spec = tie.close (tie.spec (λ c κs. search needs) (λ c. (rw (c .before .pre .0) at (c .head-in .ensures .0), c .head-in .ensures .1)))
