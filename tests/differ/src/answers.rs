@@ -1,0 +1,108 @@
+//! What both sides say of a case, and all that they write.
+
+use peer::generate::Case;
+use peer::words::Refusal as PeerRefusal;
+use peer::{State, Verdict};
+use rangecheck::{check_into, run_into, Refusal, STATE_WORDS};
+use std::fmt::Debug;
+
+/// Words on both sides of a lent slice, which nobody may write.
+const MARGIN: usize = 8;
+
+pub struct Answer<T> {
+    /// How many alarms there are, for a run 0, or the refusal.
+    pub said: Result<usize, Refusal>,
+    /// The lent slice afterwards, between its margins.
+    words: Vec<T>,
+}
+
+impl<T> Answer<T> {
+    pub fn slice(&self) -> &[T] {
+        &self.words[MARGIN..self.words.len() - MARGIN]
+    }
+}
+
+impl Answer<i32> {
+    pub fn check(case: &Case) -> Answer<i32> {
+        let mut words = alarm_words(case);
+        let said = check_into(&case.table, &case.proposal, lent(&mut words));
+        Answer { said, words }
+    }
+
+    pub fn check_by_peer(case: &Case) -> Answer<i32> {
+        let mut words = alarm_words(case);
+        let said = match peer::check(&case.table, &case.proposal, lent(&mut words)) {
+            Verdict::Accepted { count } => Ok(count),
+            Verdict::Refused { rule, place } => Err(refusal((rule, place))),
+        };
+        Answer { said, words }
+    }
+}
+
+impl Answer<i64> {
+    pub fn run(case: &Case, room: usize) -> Answer<i64> {
+        let mut words = state_words(room);
+        let said = run_into(&case.table, &case.schedule, lent(&mut words)).map(|()| 0);
+        Answer { said, words }
+    }
+
+    /// The peer knows nothing of answer slices, so what the header promises of
+    /// them is written out here: the table's refusal is told first and gives
+    /// zeros, and a short slice is never written.
+    pub fn run_by_peer(played: &Result<State, PeerRefusal>, room: usize) -> Answer<i64> {
+        let mut words = state_words(room);
+        let state = match played {
+            Ok(state) => state.words(),
+            Err(_) => vec![0; STATE_WORDS],
+        };
+        if room >= STATE_WORDS {
+            lent(&mut words).iter_mut().zip(state).for_each(|(to, word)| *to = word.into());
+        }
+        let said = match *played {
+            Err(refused) => Err(refusal(refused)),
+            Ok(_) if room < STATE_WORDS => Err(refusal((31, STATE_WORDS))),
+            Ok(_) => Ok(0),
+        };
+        Answer { said, words }
+    }
+}
+
+fn refusal((number, place): PeerRefusal) -> Refusal {
+    Refusal { number, place: place as u64 }
+}
+
+/// Distinct words, so that a stray write or a missing one shows; no alarm has
+/// a negative word.
+fn alarm_words(case: &Case) -> Vec<i32> {
+    (1..).map(|place: i32| -place).take(case.room + 2 * MARGIN).collect()
+}
+
+/// The same for a state, whose words are all small.
+fn state_words(room: usize) -> Vec<i64> {
+    (1..).map(|place: i64| i64::MIN + place).take(room + 2 * MARGIN).collect()
+}
+
+fn lent<T>(words: &mut [T]) -> &mut [T] {
+    let end = words.len() - MARGIN;
+    &mut words[MARGIN..end]
+}
+
+/// Says how an answer differs from the wanted one: nothing if it doesn't.
+pub fn differences<T: PartialEq + Debug>(
+    what: &str,
+    got: &Answer<T>,
+    want: &Answer<T>,
+) -> Vec<String> {
+    let mut found = Vec::new();
+    if got.said != want.said {
+        found.push(format!("{what}: {:?}, not {:?}", got.said, want.said));
+    }
+    if got.words != want.words {
+        let pairs = got.words.iter().zip(&want.words).enumerate();
+        for (at, (got, want)) in pairs.filter(|(_, (got, want))| got != want).take(8) {
+            let place = at as i64 - MARGIN as i64;
+            found.push(format!("{what}: word {place} is {got:?}, not {want:?}"));
+        }
+    }
+    found
+}
