@@ -66,10 +66,10 @@ fn told(room: usize) -> RangecheckAnswer
 // The run. The last state stands in 48 words at the answer's front: 8 points, 16 values, 8 owners, 8 stop nodes, 8 stop kinds; zeros where the table
 // is refused. An answer slice shorter than that stays as it came; it is refused by 31 at 48, after the table's refusals.
 #[no_mangle]
-pub extern "C" fn rangecheck_run(
-    table: &[i32],
-    schedule: &[i32],
-    answer: &mut [i64],
+pub extern "C" fn rangecheck_run<'a, 'b>(
+    table: &'a [i32],
+    schedule: &'a [i32],
+    answer: &'b mut [i64],
 ) -> RangecheckAnswer
     ensures { λ r. ⌜ r ≡ ranOf (now (table .entry)) (now (schedule .entry)) (length (now (answer .entry))) ⌝ }
     ensures { λ r. ⌜ now (answer .exit) ≡ sliceOf (now (table .entry)) (now (schedule .entry)) (now (answer .entry)) ⌝ }

@@ -10,7 +10,7 @@ use native.Mathlib.Omega.{arith}
 use borrow.Author.Tests.{ltb-true}
 use lib.Dec.{ltb}
 use lib.IntN.{ℤ, pos}
-use lib.ListN.{length, length-take, length-drop}
+use lib.ListN.{length}
 use Rattle.words.specs.Words.{numberOf}
 use Rattle.interval.specs.Arithmetic.{exact, byZero, isWord}
 use Rattle.table.specs.declared.Shape.{Shape}
@@ -19,7 +19,7 @@ use Rattle.table.specs.declared.Evaluation.{Evaluation}
 use Rattle.table.specs.declared.Evaluation.the-variants.{Value, Error}
 use Rattle.table.specs.declared.Verity.{Verity}
 use Rattle.table.specs.declared.Verity.the-variants.{Truth, Failure}
-use Rattle.table.specs.Layout.{nodesOf, fourOf, fourBy}
+use Rattle.table.specs.Layout.{fourOf, fourBy}
 use Rattle.table.specs.Decode.{shapeBy, shapeFrom, shapeOf}
 use Rattle.table.specs.Tree.{Arith, Cond, arithBy, condBy, arithF, condF, arithAt, condAt}
 use Rattle.table.specs.Meaning.{valueThen, valueThenTell, truthThen, truthThenGive, fit, fitBy, perform, performBy, inputBy, branch, result, truth}
@@ -155,14 +155,9 @@ module _ (ns vs ws : List ℤ) where
   unfolding condAt
   truth-tells n p = fuel-ends (suc n) n p .1
 
--- so the node of an error in a table is a number that is not past the table's length
-module _ (t vs ws : List ℤ) where
-  few-nodes : length (nodesOf t) ≤ length t
-  unfolding nodesOf
-  few-nodes = simp (length-take, length-drop) (omega arith)
+  -- so the node of an error is a number that is not past the nodes' words
+  pub error-inside : (e p : ℕ) {n k q : ℕ} {r : Evaluation} → r ≡ result (arithAt ns e) vs ws p → r ≡ Error n k q → n ≤ length ns
+  error-inside e p h i = omega (arith, (rw (sym h ∙ i) at (result-ends e p)) .1)
 
-  pub error-inside : (e p : ℕ) {n k q : ℕ} {r : Evaluation} → r ≡ result (arithAt (nodesOf t) e) vs ws p → r ≡ Error n k q → n ≤ length t
-  error-inside e p h i = omega (arith, few-nodes, (rw (sym h ∙ i) at (result-ends (nodesOf t) vs ws e p)) .1)
-
-  pub failure-inside : (c p : ℕ) {n k q : ℕ} {r : Verity} → r ≡ truth (condAt (nodesOf t) c) vs ws p → r ≡ Failure n k q → n ≤ length t
-  failure-inside c p h i = omega (arith, few-nodes, (rw (sym h ∙ i) at (truth-tells (nodesOf t) vs ws c p)) .1)
+  pub failure-inside : (c p : ℕ) {n k q : ℕ} {r : Verity} → r ≡ truth (condAt ns c) vs ws p → r ≡ Failure n k q → n ≤ length ns
+  failure-inside c p h i = omega (arith, (rw (sym h ∙ i) at (truth-tells c p)) .1)

@@ -39,6 +39,11 @@ isNumber (negsuc n) u = false
 abbrev pub ownsOf : State → ℕ → ℕ → Bool
 ownsOf s u m = isNumber (ownerIn s m) u
 
+-- ---- a state from its parts, in their order
+abbrev pub stateOf : List ℕ → List ℤ → List ℤ → List ℤ → List ℕ → State
+stateOf points values owners nodes kinds =
+    record { points = points; values = values; owners = owners; «stop_nodes» = nodes; «stop_kinds» = kinds }
+
 -- ---- one part changed
 abbrev pub withPointOf : State → ℕ → ℕ → State
 withPointOf s u q =

@@ -2,7 +2,7 @@
 // changes nothing.
 ghost use mathlib.Core.Path.{_≡_};
 ghost use Prim.Native.Nat.{_≤_};
-ghost use lib.ListN.{length, getD, set};
+ghost use lib.ListN.{getD, set};
 ghost use Rattle.words.specs.Words.{wordOf};
 ghost use Rattle.run.specs.State.{isFree, isNumber};
 
@@ -18,30 +18,26 @@ pub(crate) fn word_in(zs: &[i64], i: usize) -> i64
     if i < zs.len() { zs[i] } else { 0 }
 }
 
-// (Of a lent array a proof knows no length, so that each of these three asks for what its type says.)
-pub(crate) fn put_number(ns: &mut [usize; 8], i: usize, n: usize)
-    requires { ⌜ length (now ns) ≡ 8 ⌝ }
+pub(crate) fn put_number(ns: &mut [usize], i: usize, n: usize)
     ensures { λ r. ⌜ now (ns .exit) ≡ set (now (ns .entry)) i n ⌝ }
 {
-    if i < 8 {
+    if i < ns.len() {
         ns[i] = n;
     }
 }
 
-pub(crate) fn put_word(zs: &mut [i64; 8], i: usize, z: i64)
-    requires { ⌜ length (now zs) ≡ 8 ⌝ }
+pub(crate) fn put_word(zs: &mut [i64], i: usize, z: i64)
     ensures { λ r. ⌜ now (zs .exit) ≡ set (now (zs .entry)) i z ⌝ }
 {
-    if i < 8 {
+    if i < zs.len() {
         zs[i] = z;
     }
 }
 
-pub(crate) fn put_value(zs: &mut [i32; 16], i: usize, z: i32)
-    requires { ⌜ length (now zs) ≡ 16 ⌝ }
+pub(crate) fn put_value(zs: &mut [i32], i: usize, z: i32)
     ensures { λ r. ⌜ now (zs .exit) ≡ set (now (zs .entry)) i z ⌝ }
 {
-    if i < 16 {
+    if i < zs.len() {
         zs[i] = z;
     }
 }
