@@ -4,7 +4,10 @@
    touch no memory but what they are lent, so that several threads may call them. docs/FORMAT.md says what the words mean.
 
    A slice is a pointer and a number of words, in two arguments. What is lent to be written may not overlap what is lent to be read. A slice of
-   length 0 takes any aligned pointer that is not null. */
+   length 0 takes any aligned pointer that is not null.
+
+   Call from a thread with 2 MB of stack or more. How deep a call goes depends on how deep the table's formulas are nested: 1024 nodes within one another
+   were measured to take 1.1 MB. That is no part of what is proved. */
 #ifndef RANGECHECK_H
 #define RANGECHECK_H
 #include <stddef.h>

@@ -1,10 +1,10 @@
 #!/usr/bin/env python3
 """Runs tools/encode, tools/show and tools/picture and compares what they print with what it should be: encode's bytes and its errors with line and
 column; show's lines on Bare, on the tower and on each refusal, and its formulas, read back by a parser of their own; picture's nodes, edges and
-colours; the verdicts and runs of examples/tower; and every command that the tower's page quotes, with its output.
+colours; the verdicts and runs of examples/tower; and every command that a page quotes with its output, in README.md, docs/FORMAT.md and the tower's.
 
 Usage: tests/tools.py RANGECHECK RUN_TEST. dot isn't needed."""
-import html, os, random, re, subprocess, sys
+import html, os, random, re, shutil, subprocess, sys, tempfile
 from importlib.machinery import SourceFileLoader
 from types import ModuleType
 from check import BARE, BARE_PROPOSAL, FAULTS, NEVER, packed, refused, spelled
@@ -69,6 +69,7 @@ def example(name):
 ERRORS = [
     # no number, in each place of a line, after comments, and in characters rather than bytes
     ("table x proposal", "line 1, column 7: 'x' is no decimal number and no mark"),
+    ("table\n4 8 2 25 3I  # sizes\n", "line 2, column 10: '3I' is no decimal number and no mark"),
     ("table 1 2\n\t3 4x\nproposal y", "line 2, column 4: '4x' is no decimal number and no mark"),
     ("# table 5 z\ntable 1 # x y\n  1.5", "line 3, column 3: '1.5' is no decimal number and no mark"),
     ("table 1\r\n2 0x10\r\n", "line 2, column 3: '0x10' is no decimal number and no mark"),
@@ -126,7 +127,8 @@ def encoding():
             expect("encode %s on %r" % (options, text[:60]), tool("encode", *options, given=text.encode()), (b"", message + "\n", 1))
     bad = b"# \xff is fine here\ntable 1 \xff"
     expect("encode on a byte that is no UTF-8", tool("encode", given=bad), (b"", "line 2, column 9: '\\udcff' is no decimal number and no mark\n", 1))
-    expect("encode without its file", tool("encode", example("none.txt"))[::2], (b"", 1))
+    for name in ("encode", "show", "picture"):
+        expect("%s without its file" % name, tool(name, example("none.txt")), (b"", "%s: No such file or directory\n" % example("none.txt"), 1))
     rng = random.Random(20261118)
     for _ in range(20):
         t, w, s = [[rng.choice((MIN, MAX, 0, -1, rng.randrange(MIN, MAX + 1), rng.randrange(-9, 10))) for _ in range(rng.randrange(9))] for _ in range(3)]
@@ -251,6 +253,14 @@ def showing():
             expect("%s on %r" % (name, given[:40]), tool(name, "--checker", CHECKER, given=given), (b"", message, 1))
     expect("show on too long a table", lines("show", given=b"table" + b" 1" * 5150 + b" proposal")[0], "unread")
     expect("show without its checker", tool("show", "--checker", example("none"), given=bare.encode())[::2], (b"", 1))
+    # a repository in which nothing is built yet
+    with tempfile.TemporaryDirectory() as folder:
+        folder = os.path.realpath(folder)
+        shutil.copytree(TOOLS, os.path.join(folder, "tools"))
+        for name, built_by, options in (("show", "rangecheck", []), ("picture", "rangecheck", []), ("show", "run_test", ["--run"])):
+            path = os.path.join(folder, "target", "bin", built_by)
+            message = "there is no program %s; `rt check %s` builds it\n" % (path, built_by)
+            expect("%s before %s is built" % (name, built_by), tool(os.path.join(folder, "tools", name), *options, example("tower.txt")), (b"", message, 1))
     # one node above another to the depth that a table allows, one used by two; one that is its own child, and other bad fields
     deep = built([2], [0], 0, [[1, 0, nested(1024), 1], [0]])
     got = of(SHOW.shown, deep, [])
@@ -537,23 +547,53 @@ def tower():
     expect("point 8", nodes[8][0][:3], ["8  holds shaft+drive", "door := offset / pitch", "floor 0..9, goal 0..9, doors 1..12,"])
     # the picture that is kept is this one
     with open(example("tower.svg")) as file:
-        kept = [html.unescape(text).replace("\u00a0", " ") for text in re.findall(r"<text [^>]*>(.*)</text>", file.read())]
+        svg = file.read()
+    kept = [html.unescape(text).replace("\u00a0", " ") for text in re.findall(r"<text [^>]*>(.*)</text>", svg)]
     want = ["accepted 2"] + titles + [line for label, _ in nodes.values() for line in label] + [label for _, _, label in edges if label]
     expect("examples/tower/tower.svg", sorted(kept), sorted(want))
+    ways = [html.unescape(way) for way in re.findall(r'class="edge">\n<title>(.*)</title>', svg)]
+    expect("examples/tower/tower.svg, its edges", sorted(ways), sorted("p%d->p%d" % edge[:2] for edge in edges))
+    looks = re.findall(r'class="node">\n<title>p(\d+)</title>\n<polygon fill="(.*?)" stroke="(.*?)"', svg)
+    expect("examples/tower/tower.svg, its red points", sorted(int(p) for p, fill, stroke in looks if (fill, stroke) == ("#ffd8d8", "red")), [14, 24])
+    expect("examples/tower/tower.svg, its other points", len([p for p, fill, stroke in looks if (fill, stroke) == ("none", "black")]), len(nodes) - 2)
 
 
-def page():
-    """Each command of the tower's page with the output that stands below it."""
-    quoted = []
-    for line in open(example("README.md")):
+# ---- the pages
+def quoted(name):
+    """Each command of a page, a line that starts with $ in a block, with the output that stands below it."""
+    found, blank, inside = [], 0, False
+    for line in open(os.path.join(ROOT, name), encoding="utf-8"):
         if line.startswith("    $ "):
-            quoted.append((line[6:].rstrip("\n"), []))
-        elif line.startswith("    ") and quoted:
-            quoted[-1][1].append(line[4:])
-    for command, want in quoted:
-        got = subprocess.run(["bash", "-c", command], cwd=ROOT, stdout=subprocess.PIPE, stderr=subprocess.STDOUT, timeout=60).stdout.decode()
-        expect("the page's %s" % command, got, "".join(want))
-    return len(quoted)
+            found.append((line[6:].rstrip("\n"), []))
+            blank, inside = 0, True
+        elif line.strip() == "":
+            blank += 1
+        elif not line.startswith("    "):
+            inside = False
+        elif inside:
+            found[-1][1].extend(["\n"] * blank + [line[4:]])
+            blank = 0
+    return found
+
+
+def pages():
+    count = 0
+    for name in ("README.md", os.path.join("docs", "FORMAT.md"), os.path.join("examples", "tower", "README.md")):
+        commands = quoted(name)
+        expect("%s has commands" % name, commands != [], True)
+        for command, want in commands:
+            got = subprocess.run(["bash", "-c", command], cwd=ROOT, stdout=subprocess.PIPE, stderr=subprocess.STDOUT, timeout=60).stdout.decode()
+            expect("%s: %s" % (name, command), got, "".join(want))
+        count += len(commands)
+    # the refusals and messages that the pages list
+    refusals = [(str(n), word) for n, word in enumerate(SHOW.TRADE, 1)] + [("31", "short")]
+    for name in ("README.md", os.path.join("docs", "FORMAT.md")):
+        with open(os.path.join(ROOT, name), encoding="utf-8") as file:
+            text = file.read()
+        expect("the refusals of %s" % name, re.findall(r"(?m)^\| (\d+) \| ([a-z]+) \|", text), refusals)
+    said = re.findall(r"(?m)^\| `(line .*?)` \|", text)
+    expect("the messages of %s" % name, (len(said), [message for message in said if message not in [m for _, m in ERRORS]]), (5, []))
+    return count
 
 
 def main():
@@ -565,8 +605,8 @@ def main():
     count = formulas()
     picturing()
     tower()
-    commands = page()
-    print("tools: %d errors of encode, %d refusals shown, %d formulas read back, %d commands of the page, %d wrong" % (len(ERRORS) + len(RUN_ERRORS), len(FAULTS), count, commands, len(BAD)))
+    commands = pages()
+    print("tools: %d errors of encode, %d refusals shown, %d formulas read back, %d commands of the pages, %d wrong" % (len(ERRORS) + len(RUN_ERRORS), len(FAULTS), count, commands, len(BAD)))
     sys.exit(len(BAD) != 0 or not count or not commands)
 
 

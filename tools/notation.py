@@ -114,5 +114,7 @@ def put_lines(lines):
 
 def fail(what):
     """Ends a tool that can't do its work."""
+    if isinstance(what, OSError) and what.filename is not None:
+        what = "%s: %s" % (what.filename, what.strerror)
     print(what, file=sys.stderr)
     sys.exit(1)

@@ -3,7 +3,7 @@ is the checker's answer, and nothing below evaluates a formula."""
 import os, subprocess
 from notation import MAX, MIN, fail, to_bytes
 
-ROOT = os.path.join(os.path.dirname(os.path.abspath(__file__)), "..")
+ROOT = os.path.dirname(os.path.dirname(os.path.abspath(__file__)))
 SIZES = ("tasks", "variables", "mutexes", "points", "nodes")
 LIMITS = ((1, 8), (1, 16), (0, 8), (1, 256), (0, 1024))
 TRADE = "length size share node point use reach match range order start locks flow write disturb rest room".split()
@@ -183,7 +183,10 @@ def proposal_of(table, given):
 # ---- the programs
 def program(name, option):
     """The path of a built program, or what the option says."""
-    return option or os.path.join(ROOT, "target", "bin", name)
+    path = os.path.join(ROOT, "target", "bin", name)
+    if not option and not os.path.exists(path):
+        fail("there is no program %s; `rt check %s` builds it" % (path, name))
+    return option or path
 
 
 def printed(path, first, second):
