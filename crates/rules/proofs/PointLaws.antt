@@ -162,9 +162,17 @@ module _ (t w : List ℤ) where
   unfolding fitsAt rule12 rule13 rule14 alarmsAt alarmsIf markedOf
   unreached p m {b = b} e f g h = rw (← e, ← f, not-true b g) (h, refl)
 
-  pub reached : (p : ℕ) (m : List ℕ) {s : ℕ} {b : Bool} {lows highs ps : List ℤ} {x z : Point} {y : Fits} {m′ : List ℕ}
-      → s ≡ heldOf w p → b ≡ not (eqb s 4294967295) → not b ≡ false → lows ≡ rowAt t w p .lows → highs ≡ rowAt t w p .highs
-      → ps ≡ pointsOf t → z ≡ pointOf ps p → z ≡ x → y ≡ fitsBy t w x p s (rowOf lows highs) → m′ ≡ markedOf m (alarmsBy t x (rowOf lows highs))
-      → Pointed p m y m′
+  -- the same of what stands at the point, where it is reached with the held set s
+  abbrev pub Reached : ℕ → ℕ → List ℕ → Fits → List ℕ → Type 0
+  Reached p s m y m′ =
+      (y ≡ fitsBy t w (pointOf (pointsOf t) p) p s (rowAt t w p)) × (m′ ≡ markedOf m (alarmsBy t (pointOf (pointsOf t) p) (rowAt t w p)))
+
+  pub stands : (p s : ℕ) (m : List ℕ) {lows highs ps : List ℤ} {x z : Point} {y : Fits} {m′ : List ℕ} → lows ≡ rowAt t w p .lows
+      → highs ≡ rowAt t w p .highs → ps ≡ pointsOf t → z ≡ pointOf ps p → z ≡ x → y ≡ fitsBy t w x p s (rowOf lows highs)
+      → m′ ≡ markedOf m (alarmsBy t x (rowOf lows highs)) → Reached p s m y m′
+  stands p s m l h i j k u v = rw (← i, ← j, k) (rw (l, h) at u, rw (l, h) at v)
+
+  pub reached : (p : ℕ) (m : List ℕ) {s : ℕ} {b : Bool} {y : Fits} {m′ : List ℕ} → s ≡ heldOf w p → b ≡ not (eqb s 4294967295) → not b ≡ false
+      → Reached p s m y m′ → Pointed p m y m′
   unfolding fitsBy fitsAt rule12 rule13 rule14 outcomesOf alarmsAt alarmsIf
-  reached p m {b = b} e f g l h i j k u v = rw (← e, ← f, not-false b g, ← i, ← j, k) (rw (l, h) at u, rw (l, h) at v)
+  reached p m {b = b} e f g u = rw (← e, ← f, not-false b g) u

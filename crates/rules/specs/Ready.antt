@@ -28,11 +28,15 @@ pub record Apart (t w h from to : List ℤ) : Type 0 where
   pub lows : from ≡ entriesAt t w .lows
   pub highs : to ≡ entriesAt t w .highs
 
--- so are the low and the high ends of all rows
-pub record Parts (t w h from to lows highs : List ℤ) : Type 0 where
+-- the low and the high ends of all rows are at hand
+pub record Rows (t w low high : List ℤ) : Type 0 where
+  pub lows : low ≡ lowsOf t w
+  pub highs : high ≡ highsOf t w
+
+-- the entries and the rows are
+pub record Parts (t w h from to low high : List ℤ) : Type 0 where
   pub apart : Apart t w h from to
-  pub row-lows : lows ≡ lowsOf t w
-  pub row-highs : highs ≡ highsOf t w
+  pub rows : Rows t w low high
 
 -- entry i can be read where it lies: its words are there, its variable is one of the row, and its ends are in order
 pub record Readable (h from to lows highs : List ℤ) (i : ℕ) : Type 0 where

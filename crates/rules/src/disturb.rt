@@ -7,7 +7,9 @@ use crate::proposal::entry_lows;
 use crate::proposal::head_in;
 use crate::proposal::heads;
 use crate::proposal::held;
+use crate::proposal::highs;
 use crate::proposal::is_reached;
+use crate::proposal::lows;
 use crate::proposal::row_highs;
 use crate::proposal::row_lows;
 use table::layout::task_of;
@@ -103,6 +105,8 @@ pub(crate) fn first_disturbed<'a>(t: &'a [i32], w: &'a [i32], r: Places) -> Foun
     requires { ⌜ (r .from ≤ r .to) × (r .to ≤ sizesOf (now t) .points) ⌝ }
     ensures { λ x. ⌜ x ≡ firstBadIn (rule15 (now (t .entry)) (now (w .entry))) r ⌝ }
 {
+    let all_lows = lows(t, w);
+    let all_highs = highs(t, w);
     let count = entries(w);
     let all = heads(t, w);
     let from = entry_lows(t, w);
@@ -114,8 +118,8 @@ pub(crate) fn first_disturbed<'a>(t: &'a [i32], w: &'a [i32], r: Places) -> Foun
             continue 'pairs;
         }
         let u = task_of(t, p);
-        let lows = row_lows(t, w, p);
-        let highs = row_highs(t, w, p);
+        let lows = row_lows(t, w, all_lows, p);
+        let highs = row_highs(t, w, all_highs, p);
         for i in 0..count {
             if is_disturbed(t, w, all, from, to, u, s, lows, highs, i) {
                 found = Found::At(p);

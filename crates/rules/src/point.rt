@@ -20,20 +20,20 @@ use analysis::rows::own;
 use interval::Interval;
 use table::Point;
 use table::decode::point_at;
-use table::layout::node_words;
-use table::layout::point_words;
 use table::layout::task_of;
 use words::number_at;
 ghost use mathlib.Core.Path.{_≡_};
 ghost use mathlib.Core.Bool.{true};
 ghost use Prim.Native.Nat.{_<_, _≤_};
-ghost use Rattle.table.specs.Layout.{sizesOf};
+ghost use Rattle.table.specs.Layout.{sizesOf, pointsOf, nodesOf};
+ghost use Rattle.table.specs.Decode.{pointOf};
 ghost use Rattle.table.specs.declared.Point.the-variants.{Assign, Test, Lock, Unlock};
 ghost use Rattle.analysis.specs.Rows.{rowOf, asMaybe};
 ghost use Rattle.analysis.specs.Alarms.{markedOf};
+ghost use Rattle.rules.specs.Proposal.{rowAt};
 ghost use Rattle.rules.specs.Outcomes.{outcomeIf};
 ghost use Rattle.rules.specs.Alarms.{alarmsBy, alarmsAt};
-ghost use Rattle.rules.specs.Ready.{Bounded, Ready};
+ghost use Rattle.rules.specs.Ready.{Bounded, Rows, Ready};
 ghost use Rattle.rules.specs.Points.{sideOf, fitsBy, fitsAt};
 
 // Where there is no outcome and nothing is written, nothing fails.
@@ -51,6 +51,9 @@ fn no_outcome() -> Fits
 fn assign_fits<'a, 'b>(
     t: &'a [i32],
     w: &'a [i32],
+    nodes: &'a [i32],
+    all_lows: &'a [i32],
+    all_highs: &'a [i32],
     p: usize,
     s: usize,
     lows: &'a [i32],
@@ -61,11 +64,13 @@ fn assign_fits<'a, 'b>(
     marks: &'b mut [u8],
 ) -> Fits
     requires { ⌜ Ready (now t) (now w) ⌝ }
+    requires { ⌜ Rows (now t) (now w) (now «all_lows») (now «all_highs») ⌝ }
+    requires { ⌜ now nodes ≡ nodesOf (now t) ⌝ }
     requires { ⌜ q ≤ 4294967295 ⌝ }
     ensures { λ r. ⌜ r ≡ fitsBy (now (t .entry)) (now (w .entry)) (Assign v e q) p s (rowOf (now (lows .entry)) (now (highs .entry))) ⌝ }
     ensures { λ r. ⌜ now (marks .exit) ≡ markedOf (now (marks .entry)) (alarmsBy (now (t .entry)) (Assign v e q) (rowOf (now (lows .entry)) (now (highs .entry)))) ⌝ }
 {
-    let x = value(node_words(t), e, lows, highs, marks);
+    let x = value(nodes, e, lows, highs, marks);
     let Interval::Between(low, high) = x else {
         return no_outcome();
     };
@@ -77,8 +82,8 @@ fn assign_fits<'a, 'b>(
             v,
             low,
             high,
-            row_lows(t, w, q),
-            row_highs(t, w, q),
+            row_lows(t, w, all_lows, q),
+            row_highs(t, w, all_highs, q),
             number_at(t, 1),
         ),
         write: is_filed(t, w, task_of(t, p), s, v, Interval::Between(low, high)),
@@ -86,8 +91,16 @@ fn assign_fits<'a, 'b>(
 }
 
 // A side of a test that goes on at q with the held set s, by what narrowing left.
-fn side<'a>(t: &'a [i32], w: &'a [i32], s: usize, q: usize, n: Narrowed) -> Fits
-    requires { ⌜ Bounded (now t) (now w) ⌝ }
+fn side<'a>(
+    t: &'a [i32],
+    w: &'a [i32],
+    all_lows: &'a [i32],
+    all_highs: &'a [i32],
+    s: usize,
+    q: usize,
+    n: Narrowed,
+) -> Fits
+    requires { ⌜ Rows (now t) (now w) (now «all_lows») (now «all_highs») ⌝ }
     requires { ⌜ q ≤ 4294967295 ⌝ }
     ensures { λ r. ⌜ r ≡ sideOf (now (t .entry)) (now (w .entry)) (outcomeIf (asMaybe n) s q) ⌝ }
 {
@@ -100,8 +113,8 @@ fn side<'a>(t: &'a [i32], w: &'a [i32], s: usize, q: usize, n: Narrowed) -> Fits
         flow: row_within(
             &row.lows,
             &row.highs,
-            row_lows(t, w, q),
-            row_highs(t, w, q),
+            row_lows(t, w, all_lows, q),
+            row_highs(t, w, all_highs, q),
             number_at(t, 1),
         ),
         write: true,
@@ -112,6 +125,9 @@ fn side<'a>(t: &'a [i32], w: &'a [i32], s: usize, q: usize, n: Narrowed) -> Fits
 fn test_fits<'a, 'b>(
     t: &'a [i32],
     w: &'a [i32],
+    nodes: &'a [i32],
+    all_lows: &'a [i32],
+    all_highs: &'a [i32],
     p: usize,
     s: usize,
     lows: &'a [i32],
@@ -121,16 +137,24 @@ fn test_fits<'a, 'b>(
     n: usize,
     marks: &'b mut [u8],
 ) -> Fits
-    requires { ⌜ Bounded (now t) (now w) ⌝ }
+    requires { ⌜ Rows (now t) (now w) (now «all_lows») (now «all_highs») ⌝ }
+    requires { ⌜ now nodes ≡ nodesOf (now t) ⌝ }
     requires { ⌜ (y ≤ 4294967295) × (n ≤ 4294967295) ⌝ }
     ensures { λ r. ⌜ r ≡ fitsBy (now (t .entry)) (now (w .entry)) (Test c y n) p s (rowOf (now (lows .entry)) (now (highs .entry))) ⌝ }
     ensures { λ r. ⌜ now (marks .exit) ≡ markedOf (now (marks .entry)) (alarmsBy (now (t .entry)) (Test c y n) (rowOf (now (lows .entry)) (now (highs .entry)))) ⌝ }
 {
-    let nodes = node_words(t);
     decision(nodes, c, lows, highs, marks);
     let row = own(lows, highs);
-    let taken = side(t, w, s, y, narrow(nodes, c, true, row));
-    let other = side(t, w, s, n, narrow(nodes, c, false, row));
+    let taken = side(t, w, all_lows, all_highs, s, y, narrow(nodes, c, true, row));
+    let other = side(
+        t,
+        w,
+        all_lows,
+        all_highs,
+        s,
+        n,
+        narrow(nodes, c, false, row),
+    );
     Fits {
         locks: taken.locks & other.locks,
         flow: taken.flow & other.flow,
@@ -142,6 +166,8 @@ fn test_fits<'a, 'b>(
 fn lock_fits<'a>(
     t: &'a [i32],
     w: &'a [i32],
+    all_lows: &'a [i32],
+    all_highs: &'a [i32],
     p: usize,
     s: usize,
     lows: &'a [i32],
@@ -150,6 +176,7 @@ fn lock_fits<'a>(
     q: usize,
 ) -> Fits
     requires { ⌜ Bounded (now t) (now w) ⌝ }
+    requires { ⌜ Rows (now t) (now w) (now «all_lows») (now «all_highs») ⌝ }
     requires { ⌜ (m < 8) × (q ≤ 4294967295) × (s ≤ 4294967295) ⌝ }
     ensures { λ r. ⌜ r ≡ fitsBy (now (t .entry)) (now (w .entry)) (Lock m q) p s (rowOf (now (lows .entry)) (now (highs .entry))) ⌝ }
 {
@@ -158,8 +185,8 @@ fn lock_fits<'a>(
     }
     let variables = number_at(t, 1);
     let rest = number_at(t, 3) + m;
-    let rest_lows = row_lows(t, w, rest);
-    let rest_highs = row_highs(t, w, rest);
+    let rest_lows = row_lows(t, w, all_lows, rest);
+    let rest_highs = row_highs(t, w, all_highs, rest);
     if !meets(lows, highs, rest_lows, rest_highs, variables) {
         return no_outcome();
     }
@@ -170,8 +197,8 @@ fn lock_fits<'a>(
             highs,
             rest_lows,
             rest_highs,
-            row_lows(t, w, q),
-            row_highs(t, w, q),
+            row_lows(t, w, all_lows, q),
+            row_highs(t, w, all_highs, q),
             variables,
         ),
         write: true,
@@ -182,6 +209,8 @@ fn lock_fits<'a>(
 fn unlock_fits<'a>(
     t: &'a [i32],
     w: &'a [i32],
+    all_lows: &'a [i32],
+    all_highs: &'a [i32],
     p: usize,
     s: usize,
     lows: &'a [i32],
@@ -189,7 +218,7 @@ fn unlock_fits<'a>(
     m: usize,
     q: usize,
 ) -> Fits
-    requires { ⌜ Bounded (now t) (now w) ⌝ }
+    requires { ⌜ Rows (now t) (now w) (now «all_lows») (now «all_highs») ⌝ }
     requires { ⌜ (m < 8) × (q ≤ 4294967295) ⌝ }
     ensures { λ r. ⌜ r ≡ fitsBy (now (t .entry)) (now (w .entry)) (Unlock m q) p s (rowOf (now (lows .entry)) (now (highs .entry))) ⌝ }
 {
@@ -201,17 +230,89 @@ fn unlock_fits<'a>(
         flow: row_within(
             lows,
             highs,
-            row_lows(t, w, q),
-            row_highs(t, w, q),
+            row_lows(t, w, all_lows, q),
+            row_highs(t, w, all_highs, q),
             number_at(t, 1),
         ),
         write: true,
     }
 }
 
-// Rules 12, 13 and 14 at the point p; its alarms are marked if it is reached.
-pub(crate) fn point_fits<'a, 'b>(t: &'a [i32], w: &'a [i32], p: usize, marks: &'b mut [u8]) -> Fits
+// What stands at the point p, which is reached with the held set s, picks the function that looks at it.
+fn reached_fits<'a, 'b>(
+    t: &'a [i32],
+    w: &'a [i32],
+    points: &'a [i32],
+    nodes: &'a [i32],
+    all_lows: &'a [i32],
+    all_highs: &'a [i32],
+    p: usize,
+    s: usize,
+    marks: &'b mut [u8],
+) -> Fits
     requires { ⌜ Ready (now t) (now w) ⌝ }
+    requires { ⌜ Rows (now t) (now w) (now «all_lows») (now «all_highs») ⌝ }
+    requires { ⌜ now points ≡ pointsOf (now t) ⌝ }
+    requires { ⌜ now nodes ≡ nodesOf (now t) ⌝ }
+    requires { ⌜ (p < sizesOf (now t) .points) × (s ≤ 4294967295) ⌝ }
+    ensures { λ r. ⌜ r ≡ fitsBy (now (t .entry)) (now (w .entry)) (pointOf (pointsOf (now (t .entry))) p) p s (rowAt (now (t .entry)) (now (w .entry)) p) ⌝ }
+    ensures { λ r. ⌜ now (marks .exit) ≡ markedOf (now (marks .entry)) (alarmsBy (now (t .entry)) (pointOf (pointsOf (now (t .entry))) p) (rowAt (now (t .entry)) (now (w .entry)) p)) ⌝ }
+{
+    let lows = row_lows(t, w, all_lows, p);
+    let highs = row_highs(t, w, all_highs, p);
+    let x = point_at(points, p);
+    match x {
+        Point::End => no_outcome(),
+        Point::Assign(v, e, q) => assign_fits(
+            t,
+            w,
+            nodes,
+            all_lows,
+            all_highs,
+            p,
+            s,
+            lows,
+            highs,
+            v,
+            e,
+            q,
+            marks,
+        ),
+        Point::Test(c, y, n) => test_fits(
+            t,
+            w,
+            nodes,
+            all_lows,
+            all_highs,
+            p,
+            s,
+            lows,
+            highs,
+            c,
+            y,
+            n,
+            marks,
+        ),
+        Point::Lock(m, q) => lock_fits(t, w, all_lows, all_highs, p, s, lows, highs, m, q),
+        Point::Unlock(m, q) => unlock_fits(t, w, all_lows, all_highs, p, s, lows, highs, m, q),
+    }
+}
+
+// Rules 12, 13 and 14 at the point p; its alarms are marked if it is reached.
+pub(crate) fn point_fits<'a, 'b>(
+    t: &'a [i32],
+    w: &'a [i32],
+    points: &'a [i32],
+    nodes: &'a [i32],
+    all_lows: &'a [i32],
+    all_highs: &'a [i32],
+    p: usize,
+    marks: &'b mut [u8],
+) -> Fits
+    requires { ⌜ Ready (now t) (now w) ⌝ }
+    requires { ⌜ Rows (now t) (now w) (now «all_lows») (now «all_highs») ⌝ }
+    requires { ⌜ now points ≡ pointsOf (now t) ⌝ }
+    requires { ⌜ now nodes ≡ nodesOf (now t) ⌝ }
     requires { ⌜ p < sizesOf (now t) .points ⌝ }
     ensures { λ r. ⌜ r ≡ fitsAt (now (t .entry)) (now (w .entry)) p ⌝ }
     ensures { λ r. ⌜ now (marks .exit) ≡ markedOf (now (marks .entry)) (alarmsAt (now (t .entry)) (now (w .entry)) p) ⌝ }
@@ -220,14 +321,5 @@ pub(crate) fn point_fits<'a, 'b>(t: &'a [i32], w: &'a [i32], p: usize, marks: &'
     if !is_reached(s) {
         return no_outcome();
     }
-    let lows = row_lows(t, w, p);
-    let highs = row_highs(t, w, p);
-    let x = point_at(point_words(t), p);
-    match x {
-        Point::End => no_outcome(),
-        Point::Assign(v, e, q) => assign_fits(t, w, p, s, lows, highs, v, e, q, marks),
-        Point::Test(c, y, n) => test_fits(t, w, p, s, lows, highs, c, y, n, marks),
-        Point::Lock(m, q) => lock_fits(t, w, p, s, lows, highs, m, q),
-        Point::Unlock(m, q) => unlock_fits(t, w, p, s, lows, highs, m, q),
-    }
+    reached_fits(t, w, points, nodes, all_lows, all_highs, p, s, marks)
 }

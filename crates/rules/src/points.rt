@@ -1,8 +1,13 @@
-// Refusals 12, 13 and 14: one walk over the points of a range settles all three and marks the alarms.
+// Refusals 12, 13 and 14: one walk over the points of a range settles all three and marks the alarms. The parts that each point
+// reads are cut once, before the walk.
 use crate::Faults;
 use crate::Fits;
 use crate::Places;
 use crate::point::point_fits;
+use crate::proposal::highs;
+use crate::proposal::lows;
+use table::layout::node_words;
+use table::layout::point_words;
 use words::Found;
 ghost use mathlib.Core.Path.{_≡_};
 ghost use Prim.Native.Nat.{_≤_};
@@ -42,6 +47,10 @@ pub(crate) fn faults<'a, 'b>(t: &'a [i32], w: &'a [i32], r: Places, marks: &'b m
     ensures { λ x. ⌜ x ≡ faultsOf (now (t .entry)) (now (w .entry)) (r .from) (r .to) ⌝ }
     ensures { λ x. ⌜ now (marks .exit) ≡ markedOf (now (marks .entry)) (alarmsIn (now (t .entry)) (now (w .entry)) (r .from) (r .to)) ⌝ }
 {
+    let points = point_words(t);
+    let nodes = node_words(t);
+    let all_lows = lows(t, w);
+    let all_highs = highs(t, w);
     let mut all = Faults {
         locks: Found::Nothing,
         flow: Found::Nothing,
@@ -49,7 +58,7 @@ pub(crate) fn faults<'a, 'b>(t: &'a [i32], w: &'a [i32], r: Places, marks: &'b m
     };
     let mut p = r.from;
     while p < r.to {
-        let fits = point_fits(t, w, p, marks);
+        let fits = point_fits(t, w, points, nodes, all_lows, all_highs, p, marks);
         all = fault_or(all, fits, p);
         p += 1;
     }

@@ -115,21 +115,21 @@ pub(crate) fn row_in(ends: &[i32], variables: usize, k: usize) -> &[i32]
     part(ends, k * variables, variables)
 }
 
-// The low ends of row k.
-pub(crate) fn row_lows<'a>(t: &'a [i32], w: &'a [i32], k: usize) -> &'a [i32]
-    requires { ⌜ Bounded (now t) (now w) ⌝ }
+// The low ends of row k, where all low ends are at hand.
+pub(crate) fn row_lows<'a>(t: &'a [i32], w: &'a [i32], all: &'a [i32], k: usize) -> &'a [i32]
+    requires { ⌜ now all ≡ lowsOf (now t) (now w) ⌝ }
     requires { ⌜ k ≤ 4294967295 ⌝ }
     ensures { λ r. ⌜ now r ≡ rowAt (now (t .entry)) (now (w .entry)) k .lows ⌝ }
 {
-    row_in(lows(t, w), number_at(t, 1), k)
+    row_in(all, number_at(t, 1), k)
 }
 
-pub(crate) fn row_highs<'a>(t: &'a [i32], w: &'a [i32], k: usize) -> &'a [i32]
-    requires { ⌜ Bounded (now t) (now w) ⌝ }
+pub(crate) fn row_highs<'a>(t: &'a [i32], w: &'a [i32], all: &'a [i32], k: usize) -> &'a [i32]
+    requires { ⌜ now all ≡ highsOf (now t) (now w) ⌝ }
     requires { ⌜ k ≤ 4294967295 ⌝ }
     ensures { λ r. ⌜ now r ≡ rowAt (now (t .entry)) (now (w .entry)) k .highs ⌝ }
 {
-    row_in(highs(t, w), number_at(t, 1), k)
+    row_in(all, number_at(t, 1), k)
 }
 
 // The low ends of the entries.

@@ -29,12 +29,21 @@ ghost use Rattle.rules.specs.Held.{hasOf};
 ghost use Rattle.rules.specs.Proposal.{entriesOf, heldOf, headOf, rowAt, restAt};
 ghost use Rattle.rules.specs.Outcomes.{outcomesBy};
 ghost use Rattle.rules.specs.Rules.{implies, takes, rests, restPoint, restEntry, rule16};
-ghost use Rattle.rules.specs.Ready.{Bounded, Parts, Ready};
+ghost use Rattle.rules.specs.Ready.{Bounded, Rows, Parts, Ready};
 ghost use Rattle.rules.specs.Examine.{firstBadIn};
 
 // An unlock of m at the point p.
-fn unlock_rests<'a>(t: &'a [i32], w: &'a [i32], m: usize, q: usize, p: usize) -> bool
+fn unlock_rests<'a>(
+    t: &'a [i32],
+    w: &'a [i32],
+    all_lows: &'a [i32],
+    all_highs: &'a [i32],
+    m: usize,
+    q: usize,
+    p: usize,
+) -> bool
     requires { ⌜ Bounded (now t) (now w) ⌝ }
+    requires { ⌜ Rows (now t) (now w) (now «all_lows») (now «all_highs») ⌝ }
     requires { ⌜ (m < 8) × (p ≤ 4294967295) ⌝ }
     ensures { λ r. ⌜ r ≡ rests (now (t .entry)) (now (w .entry)) (Unlock m q) (outcomesBy (now (t .entry)) (now (w .entry)) (Unlock m q) (heldOf (now (w .entry)) p) (rowAt (now (t .entry)) (now (w .entry)) p)) ⌝ }
 {
@@ -43,17 +52,24 @@ fn unlock_rests<'a>(t: &'a [i32], w: &'a [i32], m: usize, q: usize, p: usize) ->
     }
     let rest = number_at(t, 3) + m;
     row_within(
-        row_lows(t, w, p),
-        row_highs(t, w, p),
-        row_lows(t, w, rest),
-        row_highs(t, w, rest),
+        row_lows(t, w, all_lows, p),
+        row_highs(t, w, all_highs, p),
+        row_lows(t, w, all_lows, rest),
+        row_highs(t, w, all_highs, rest),
         number_at(t, 1),
     )
 }
 
-fn rest_point<'a>(t: &'a [i32], w: &'a [i32], p: usize) -> bool
+fn rest_point<'a>(
+    t: &'a [i32],
+    w: &'a [i32],
+    all_lows: &'a [i32],
+    all_highs: &'a [i32],
+    p: usize,
+) -> bool
     requires { ⌜ Passes (now t) ⌝ }
     requires { ⌜ Bounded (now t) (now w) ⌝ }
+    requires { ⌜ Rows (now t) (now w) (now «all_lows») (now «all_highs») ⌝ }
     requires { ⌜ p < sizesOf (now t) .points ⌝ }
     ensures { λ r. ⌜ r ≡ restPoint (now (t .entry)) (now (w .entry)) p ⌝ }
 {
@@ -66,7 +82,7 @@ fn rest_point<'a>(t: &'a [i32], w: &'a [i32], p: usize) -> bool
         Point::Assign(_, _, _) => true,
         Point::Test(_, _, _) => true,
         Point::Lock(_, _) => true,
-        Point::Unlock(m, q) => unlock_rests(t, w, m, q, p),
+        Point::Unlock(m, q) => unlock_rests(t, w, all_lows, all_highs, m, q, p),
     }
 }
 
@@ -77,13 +93,13 @@ fn rests_at<'a>(
     heads: &'a [i32],
     from: &'a [i32],
     to: &'a [i32],
-    lows: &'a [i32],
-    highs: &'a [i32],
+    all_lows: &'a [i32],
+    all_highs: &'a [i32],
     i: usize,
     m: usize,
 ) -> bool
     requires { ⌜ Ready (now t) (now w) ⌝ }
-    requires { ⌜ Parts (now t) (now w) (now heads) (now from) (now to) (now lows) (now highs) ⌝ }
+    requires { ⌜ Parts (now t) (now w) (now heads) (now from) (now to) (now «all_lows») (now «all_highs») ⌝ }
     requires { ⌜ (i < entriesOf (now w)) × (m < sizesOf (now t) .mutexes) ⌝ }
     ensures { λ r. ⌜ r ≡ implies (not (hasOf (headOf (now (t .entry)) (now (w .entry)) i 1) m)) (takes (now (t .entry)) (now (w .entry)) (restAt (now (t .entry)) (now (w .entry)) m) i) ⌝ }
 {
@@ -98,8 +114,8 @@ fn rests_at<'a>(
         heads,
         from,
         to,
-        row_in(lows, variables, rest),
-        row_in(highs, variables, rest),
+        row_in(all_lows, variables, rest),
+        row_in(all_highs, variables, rest),
         i,
     )
 }
@@ -110,19 +126,19 @@ fn rest_entry<'a>(
     heads: &'a [i32],
     from: &'a [i32],
     to: &'a [i32],
-    lows: &'a [i32],
-    highs: &'a [i32],
+    all_lows: &'a [i32],
+    all_highs: &'a [i32],
     i: usize,
 ) -> bool
     requires { ⌜ Ready (now t) (now w) ⌝ }
-    requires { ⌜ Parts (now t) (now w) (now heads) (now from) (now to) (now lows) (now highs) ⌝ }
+    requires { ⌜ Parts (now t) (now w) (now heads) (now from) (now to) (now «all_lows») (now «all_highs») ⌝ }
     requires { ⌜ i < entriesOf (now w) ⌝ }
     ensures { λ r. ⌜ r ≡ restEntry (now (t .entry)) (now (w .entry)) i ⌝ }
 {
     let mutexes = number_at(t, 2);
     let mut m = 0;
     while m < mutexes {
-        if !rests_at(t, w, heads, from, to, lows, highs, i, m) {
+        if !rests_at(t, w, heads, from, to, all_lows, all_highs, i, m) {
             return false;
         }
         m += 1;
@@ -137,20 +153,20 @@ fn rest_ok<'a>(
     heads: &'a [i32],
     from: &'a [i32],
     to: &'a [i32],
-    lows: &'a [i32],
-    highs: &'a [i32],
+    all_lows: &'a [i32],
+    all_highs: &'a [i32],
     place: usize,
 ) -> bool
     requires { ⌜ Ready (now t) (now w) ⌝ }
-    requires { ⌜ Parts (now t) (now w) (now heads) (now from) (now to) (now lows) (now highs) ⌝ }
+    requires { ⌜ Parts (now t) (now w) (now heads) (now from) (now to) (now «all_lows») (now «all_highs») ⌝ }
     requires { ⌜ place < sizesOf (now t) .points + entriesOf (now w) ⌝ }
     ensures { λ r. ⌜ r ≡ rule16 (now (t .entry)) (now (w .entry)) place ⌝ }
 {
     let points = number_at(t, 3);
     if place < points {
-        return rest_point(t, w, place);
+        return rest_point(t, w, all_lows, all_highs, place);
     }
-    rest_entry(t, w, heads, from, to, lows, highs, place - points)
+    rest_entry(t, w, heads, from, to, all_lows, all_highs, place - points)
 }
 
 pub(crate) fn first_rest<'a>(t: &'a [i32], w: &'a [i32], r: Places) -> Found
@@ -161,11 +177,11 @@ pub(crate) fn first_rest<'a>(t: &'a [i32], w: &'a [i32], r: Places) -> Found
     let all = heads(t, w);
     let from = entry_lows(t, w);
     let to = entry_highs(t, w);
-    let low = lows(t, w);
-    let high = highs(t, w);
+    let all_lows = lows(t, w);
+    let all_highs = highs(t, w);
     let mut place = r.from;
     while place < r.to {
-        if !rest_ok(t, w, all, from, to, low, high, place) {
+        if !rest_ok(t, w, all, from, to, all_lows, all_highs, place) {
             return Found::At(place);
         }
         place += 1;

@@ -1,6 +1,8 @@
 // Refusal 11: what holds at the start.
 use crate::Places;
 use crate::proposal::held;
+use crate::proposal::highs;
+use crate::proposal::lows;
 use crate::proposal::row_highs;
 use crate::proposal::row_lows;
 use analysis::rows::range;
@@ -18,7 +20,7 @@ ghost use Rattle.table.specs.Layout.{sizesOf};
 ghost use Rattle.table.specs.Passes.{Passes};
 ghost use Rattle.analysis.specs.Rows.{rowOf};
 ghost use Rattle.rules.specs.Rules.{isFirst, holdsStart, startPoint, rule11};
-ghost use Rattle.rules.specs.Ready.{Bounded};
+ghost use Rattle.rules.specs.Ready.{Bounded, Rows};
 ghost use Rattle.rules.specs.Examine.{firstBadIn};
 
 // Whether the starting values lie within a row.
@@ -47,9 +49,15 @@ fn is_first(t: &[i32], p: usize) -> bool
     first_of(t, task_of(t, p)) == p
 }
 
-fn start_point<'a>(t: &'a [i32], w: &'a [i32], p: usize) -> bool
+fn start_point<'a>(
+    t: &'a [i32],
+    w: &'a [i32],
+    all_lows: &'a [i32],
+    all_highs: &'a [i32],
+    p: usize,
+) -> bool
     requires { ⌜ Passes (now t) ⌝ }
-    requires { ⌜ Bounded (now t) (now w) ⌝ }
+    requires { ⌜ Rows (now t) (now w) (now «all_lows») (now «all_highs») ⌝ }
     requires { ⌜ p < sizesOf (now t) .points ⌝ }
     ensures { λ r. ⌜ r ≡ startPoint (now (t .entry)) (now (w .entry)) p ⌝ }
 {
@@ -59,20 +67,34 @@ fn start_point<'a>(t: &'a [i32], w: &'a [i32], p: usize) -> bool
     if held(w, p) != 0 {
         return false;
     }
-    holds_start(t, row_lows(t, w, p), row_highs(t, w, p))
+    holds_start(
+        t,
+        row_lows(t, w, all_lows, p),
+        row_highs(t, w, all_highs, p),
+    )
 }
 
 // Refusal 11 at a place: a point, or points + mutex.
-fn start_ok<'a>(t: &'a [i32], w: &'a [i32], place: usize) -> bool
+fn start_ok<'a>(
+    t: &'a [i32],
+    w: &'a [i32],
+    all_lows: &'a [i32],
+    all_highs: &'a [i32],
+    place: usize,
+) -> bool
     requires { ⌜ Passes (now t) ⌝ }
-    requires { ⌜ Bounded (now t) (now w) ⌝ }
+    requires { ⌜ Rows (now t) (now w) (now «all_lows») (now «all_highs») ⌝ }
     requires { ⌜ place ≤ 4294967295 ⌝ }
     ensures { λ r. ⌜ r ≡ rule11 (now (t .entry)) (now (w .entry)) place ⌝ }
 {
     if place < number_at(t, 3) {
-        return start_point(t, w, place);
+        return start_point(t, w, all_lows, all_highs, place);
     }
-    holds_start(t, row_lows(t, w, place), row_highs(t, w, place))
+    holds_start(
+        t,
+        row_lows(t, w, all_lows, place),
+        row_highs(t, w, all_highs, place),
+    )
 }
 
 pub(crate) fn first_start<'a>(t: &'a [i32], w: &'a [i32], r: Places) -> Found
@@ -81,9 +103,11 @@ pub(crate) fn first_start<'a>(t: &'a [i32], w: &'a [i32], r: Places) -> Found
     requires { ⌜ (r .from ≤ r .to) × (r .to ≤ 4294967295) ⌝ }
     ensures { λ x. ⌜ x ≡ firstBadIn (rule11 (now (t .entry)) (now (w .entry))) r ⌝ }
 {
+    let all_lows = lows(t, w);
+    let all_highs = highs(t, w);
     let mut place = r.from;
     while place < r.to {
-        if !start_ok(t, w, place) {
+        if !start_ok(t, w, all_lows, all_highs, place) {
             return Found::At(place);
         }
         place += 1;

@@ -12,7 +12,7 @@ unfolding alarmsBy
 nothing c =
     let told = c .before in
     let walk = told .before .before .before .before in
-    let nodes = walk .before .before .node-words .ensures in (
+    let nodes = walk .before .before .before .pre .1 .1 .0 in (
       assign-none _ _ _ _ _ _ _ _ nodes (walk .value .ensures .0) (told .enum-told .given .1) (c .no-outcome .ensures),
       rw nodes at (walk .value .ensures .1),
     )
@@ -28,7 +28,7 @@ written c =
     let told = held .before in
     let matched = told .before in
     let walk = matched .before .before .before .before in
-    let nodes = walk .before .before .node-words .ensures in
+    let nodes = walk .before .before .before .pre .1 .1 .0 in
     let low = read-back {z = matched .x .given .0 .0} (told .known-told .given .0 .1) in
     let high = read-back {z = matched .x .given .0 .1 .0} (told .known-told .given .1 .0 .1) in (
       assign-some _ _ _ _ _ _ _ _ nodes (walk .value .ensures .0) (matched .x .given .1) low high (held .held .ensures .0)
@@ -41,7 +41,6 @@ pub assign-fits-spec : {M : Type 1} → statement M
 assign-fits-spec =
     tie.close
     (tie.spec
-    (λ c κs. search needs)
     (λ c κs. search needs)
     (λ c. search needs)
     (λ c. search needs)

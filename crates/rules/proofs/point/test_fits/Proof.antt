@@ -13,7 +13,7 @@ returns c =
     let taken = other .before .before in
     let own = taken .before .before in
     let walk = own .before .before .before in
-    let nodes = walk .before .before .node-words .ensures in (
+    let nodes = walk .before .before .before .pre .1 .0 in (
       test-fits _ _ _ _ _ _ _ _ nodes (own .own .ensures) (taken .before .narrow .ensures) (taken .side .ensures) (other .before .narrow2 .ensures)
           (other .side2 .ensures),
       rw nodes at (walk .decision .ensures .1),
@@ -28,7 +28,6 @@ test-fits-spec =
     (λ c κs. search needs)
     (λ c κs. search needs)
     (λ c κs. search needs)
-    (λ c κs. search needs)
-    (λ c κs. let pre = c .before .before .before .before .before .before .before .before .before .before .pre in (pre .0, pre .1 .1))
+    (λ c κs. let pre = c .before .before .before .before .before .before .before .before .before .pre in (pre .0, pre .1 .1 .1))
     (λ c. search needs)
     returns)

@@ -8,10 +8,27 @@ use Rattle.rules.proofs.points.faults.Statement.{statement}
 use Rattle.rules.proofs.points.faults.Tie as tie
 
 abbrev Inv-loop : tie.InvT-loop
-Inv-loop t w r marks₀ all₀ p₀ marks all p = Walked t w (r .from) (r .to) marks₀ p all marks
+Inv-loop t w r marks₀ points nodes all-lows all-highs all₀ p₀ marks all p = Walked t w (r .from) (r .to) marks₀ p all marks
 
 abbrev μ-loop : tie.MeasureT-loop
-μ-loop t w r marks₀ all₀ p₀ marks all p = r .to - p
+μ-loop t w r marks₀ points nodes all-lows all-highs all₀ p₀ marks all p = r .to - p
+
+-- to the start
+abbrev to-start : tie.After-highs Inv-loop μ-loop → tie.Start Inv-loop μ-loop
+to-start c = c .before .before .before .before .before
+
+requires : tie.Need-point-fits-requires Inv-loop μ-loop
+requires c κs =
+    let highs = c .before .before .before .before in
+    let lows = highs .before in
+    let nodes = lows .before in
+    let pre = to-start highs .pre in (
+      pre .0,
+      (
+        record { lows = lows .lows .ensures; highs = highs .highs .ensures },
+        (nodes .before .point-words .ensures, (nodes .node-words .ensures, omega (arith, pre .1 .1, c .before .if1 .taken))),
+      ),
+    )
 
 loop-again : tie.Need-loop-again Inv-loop μ-loop
 loop-again c =
@@ -25,8 +42,12 @@ faults-spec =
     (tie.spec
     Inv-loop
     μ-loop
-    (λ c. walk (c .before .pre .1 .0))
-    (λ c κs. let start = c .before .before .before .before .before in (start .pre .0, omega (arith, start .pre .1 .1, c .before .if1 .taken)))
+    (λ c κs. search needs)
+    (λ c κs. search needs)
+    (λ c κs. search needs)
+    (λ c κs. search needs)
+    (λ c. walk (to-start c .pre .1 .0))
+    requires
     (λ c κs. search needs)
     (λ c. search needs)
     (λ c. search needs)

@@ -11,5 +11,4 @@ row-highs-spec =
     (tie.spec
     (λ c κs. search needs)
     (λ c κs. search needs)
-    (λ c κs. search needs)
-    (λ c. rw (c .row-in .ensures, c .before .before .highs .ensures, c .before .number-at .ensures .0)))
+    (λ c. rw (c .row-in .ensures, c .before .before .pre .0, c .before .number-at .ensures .0)))

@@ -12,10 +12,10 @@ use Rattle.rules.proofs.rest.first_rest.Statement.{statement}
 use Rattle.rules.proofs.rest.first_rest.Tie as tie
 
 abbrev Inv-loop : tie.InvT-loop
-Inv-loop t w r all from to low high place₀ place = Sought (rule16 t w) (r .from) (r .to) place
+Inv-loop t w r all from to all-lows all-highs place₀ place = Sought (rule16 t w) (r .from) (r .to) place
 
 abbrev μ-loop : tie.MeasureT-loop
-μ-loop t w r all from to low high place₀ place = r .to - place
+μ-loop t w r all from to all-lows all-highs place₀ place = r .to - place
 
 -- to the start
 abbrev to-start : tie.After-highs Inv-loop μ-loop → tie.Start Inv-loop μ-loop
@@ -31,8 +31,7 @@ at-hand c =
     let from = to .before in
     record {
       apart = record { heads = from .before .heads .ensures; lows = from .entry-lows .ensures; highs = to .entry-highs .ensures };
-      row-lows = lows .lows .ensures;
-      row-highs = c .highs .ensures;
+      rows = record { lows = lows .lows .ensures; highs = c .highs .ensures };
     }
 
 requires : tie.Need-rest-ok-requires Inv-loop μ-loop

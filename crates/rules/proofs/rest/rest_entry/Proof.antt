@@ -11,10 +11,10 @@ use Rattle.rules.proofs.rest.rest_entry.Statement.{statement}
 use Rattle.rules.proofs.rest.rest_entry.Tie as tie
 
 abbrev Inv-loop : tie.InvT-loop
-Inv-loop t w heads from to lows highs i mutexes m₀ m = Checked (entryRests t w i) mutexes m
+Inv-loop t w heads from to all-lows all-highs i mutexes m₀ m = Checked (entryRests t w i) mutexes m
 
 abbrev μ-loop : tie.MeasureT-loop
-μ-loop t w heads from to lows highs i mutexes m₀ m = mutexes - m
+μ-loop t w heads from to all-lows all-highs i mutexes m₀ m = mutexes - m
 
 rests-at-requires : tie.Need-rests-at-requires Inv-loop μ-loop
 rests-at-requires c κs =

@@ -5,6 +5,12 @@ use Rattle.rules.proofs.RestLaws.{rest-at-point, rest-at-entry}
 use Rattle.rules.proofs.rest.rest_ok.Statement.{statement}
 use Rattle.rules.proofs.rest.rest_ok.Tie as tie
 
+point-requires : tie.Need-rest-point-requires
+point-requires c κs =
+    let points = c .before in
+    let pre = points .before .pre in
+    (pre .0 .passes, (pre .0 .bounded, (pre .1 .0 .rows, rw (points .number-at .ensures .0) at (c .if1 .taken))))
+
 returns : tie.Need-returns
 returns c =
     let points = c .before .before in
@@ -27,7 +33,7 @@ rest-ok-spec =
     tie.close
     (tie.spec
     (λ c κs. search needs)
-    (λ c κs. search needs)
+    point-requires
     returns
     entry-requires
     returns-2)

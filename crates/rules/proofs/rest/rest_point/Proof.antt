@@ -34,7 +34,8 @@ unlock-rests-requires : tie.Need-unlock-rests-requires
 unlock-rests-requires c κs =
     let point = c .before .before .before in
     let pre = point .before .before .before .before .before .pre in
-    (pre .1 .0, (unlock-below _ _ (pre .0) (pre .1 .1) (sym (read point) ∙ c .before .x .given .1), omega (arith, pre .1 .1, pre .1 .0 .points)))
+    let below = pre .1 .1 .1 in
+    (pre .1 .0, (pre .1 .1 .0, (unlock-below _ _ (pre .0) below (sym (read point) ∙ c .before .x .given .1), omega (arith, below, pre .1 .0 .points))))
 
 returns : tie.Need-returns
 returns c =

@@ -21,14 +21,14 @@ lows-are : (c : tie.After-row-in) → let points = c .before in let a = points .
 unfolding rowAt
 lows-are c =
     let variables = c .before .before in
-    rw (variables .number-at .ensures .0, variables .before .before .before .before .pre .1 .0 .row-lows) at (c .row-in .ensures)
+    rw (variables .number-at .ensures .0, variables .before .before .before .before .pre .1 .0 .rows .lows) at (c .row-in .ensures)
 
 highs-are : (c : tie.After-row-in2) → let points = c .before .before in let a = points .before .before .before .before .before .args in
     now (c .row-in2 .result) ≡ rowAt (now (a .t)) (now (a .w)) (points .number-at2 .result + a .m) .highs
 unfolding rowAt
 highs-are c =
     let variables = c .before .before .before in
-    rw (variables .number-at .ensures .0, variables .before .before .before .before .pre .1 .0 .row-highs) at (c .row-in2 .ensures)
+    rw (variables .number-at .ensures .0, variables .before .before .before .before .pre .1 .0 .rows .highs) at (c .row-in2 .ensures)
 
 is-taken-requires : tie.Need-is-taken-requires
 is-taken-requires c κs =

@@ -10,13 +10,17 @@ use Rattle.rules.proofs.start.first_start.Statement.{statement}
 use Rattle.rules.proofs.start.first_start.Tie as tie
 
 abbrev Inv-loop : tie.InvT-loop
-Inv-loop t w r place₀ place = Sought (rule11 t w) (r .from) (r .to) place
+Inv-loop t w r all-lows all-highs place₀ place = Sought (rule11 t w) (r .from) (r .to) place
 
 abbrev μ-loop : tie.MeasureT-loop
-μ-loop t w r place₀ place = r .to - place
+μ-loop t w r all-lows all-highs place₀ place = r .to - place
 
 requires : tie.Need-start-ok-requires Inv-loop μ-loop
-requires c κs = let pre = c .before .before .before .pre in (pre .0, (pre .1 .0, omega (arith, c .if1 .taken, pre .1 .1 .1)))
+requires c κs =
+    let highs = c .before .before .before in
+    let lows = highs .before in
+    let pre = lows .before .pre in
+    (pre .0, (record { lows = lows .lows .ensures; highs = highs .highs .ensures }, omega (arith, c .if1 .taken, pre .1 .1 .1)))
 
 returns : tie.Need-returns Inv-loop μ-loop
 returns c =
@@ -34,7 +38,9 @@ first-start-spec =
     (tie.spec
     Inv-loop
     μ-loop
-    (λ c. seek (c .pre .1 .1 .0))
+    (λ c κs. search needs)
+    (λ c κs. search needs)
+    (λ c. seek (c .before .before .pre .1 .1 .0))
     requires
     returns
     (λ c. search needs)
