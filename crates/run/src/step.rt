@@ -158,36 +158,32 @@ fn act<'a, 'b>(
     let what = point_at(places, number_in(&points[..], u));
     match what {
         Point::End => at,
-        Point::Assign(v, e, q) => {
-            assign(
-                points,
-                values,
-                stop_nodes,
-                stop_kinds,
-                nodes,
-                schedule,
-                at,
-                u,
-                v,
-                e,
-                q,
-            )
-        }
-        Point::Test(c, y, n) => {
-            test(
-                points,
-                &values[..],
-                stop_nodes,
-                stop_kinds,
-                nodes,
-                schedule,
-                at,
-                u,
-                c,
-                y,
-                n,
-            )
-        }
+        Point::Assign(v, e, q) => assign(
+            points,
+            values,
+            stop_nodes,
+            stop_kinds,
+            nodes,
+            schedule,
+            at,
+            u,
+            v,
+            e,
+            q,
+        ),
+        Point::Test(c, y, n) => test(
+            points,
+            &values[..],
+            stop_nodes,
+            stop_kinds,
+            nodes,
+            schedule,
+            at,
+            u,
+            c,
+            y,
+            n,
+        ),
         Point::Lock(m, q) => {
             lock(points, owners, u, m, q);
             at
