@@ -11,12 +11,13 @@ use words::number;
 use words::number_at;
 use words::word;
 ghost use mathlib.Core.Path.{_≡_};
-ghost use Prim.Native.Nat.{_+_, _≤_};
+ghost use Prim.Native.Nat.{_+_, _<_, _≤_};
 ghost use lib.Signed.{leZ};
 ghost use Rattle.words.specs.Words.{wordOf};
 ghost use Rattle.words.specs.First.{firstBad};
+ghost use Rattle.words.specs.declared.Found.the-variants.{Nothing};
 ghost use Rattle.table.specs.Layout.{sizesOf};
-ghost use Rattle.rules.specs.Proposal.{intervalsOf, headsFrom, lowsFrom, lowsOf, highsOf};
+ghost use Rattle.rules.specs.Proposal.{intervalsOf, headsFrom, lowsFrom};
 ghost use Rattle.rules.specs.Rules.{rule8, isSet, heldInRange, headInRange, rule9};
 ghost use Rattle.rules.specs.Ready.{Bounded};
 
@@ -87,19 +88,10 @@ fn ends_ok<'a>(lows: &'a [i32], highs: &'a [i32], k: usize) -> bool
     word(lows, k) <= word(highs, k)
 }
 
-// Refusal 9 at a word; where the parts begin and both ends are at hand.
-fn word_ok<'a>(
-    t: &'a [i32],
-    w: &'a [i32],
-    heads: usize,
-    ends: usize,
-    lows: &'a [i32],
-    highs: &'a [i32],
-    i: usize,
-) -> bool
+// Refusal 9 at a word before the ends; where the heads begin is at hand.
+fn word_ok<'a>(t: &'a [i32], w: &'a [i32], heads: usize, i: usize) -> bool
     requires { ⌜ Bounded (now t) (now w) ⌝ }
-    requires { ⌜ (heads ≡ headsFrom (now t)) × (ends ≡ lowsFrom (now t) (now w)) ⌝ }
-    requires { ⌜ (now lows ≡ lowsOf (now t) (now w)) × (now highs ≡ highsOf (now t) (now w)) ⌝ }
+    requires { ⌜ (heads ≡ headsFrom (now t)) × (i < lowsFrom (now t) (now w)) ⌝ }
     ensures { λ r. ⌜ r ≡ rule9 (now (t .entry)) (now (w .entry)) i ⌝ }
 {
     if i < 4 {
@@ -108,27 +100,52 @@ fn word_ok<'a>(
     if i < heads {
         return held_ok(t, w, i - 4);
     }
-    if i < ends {
-        return head_ok(t, (i - heads) % 3, number_at(w, i));
+    head_ok(t, (i - heads) % 3, number_at(w, i))
+}
+
+// The first word before the ends that fails.
+fn first_early<'a>(t: &'a [i32], w: &'a [i32]) -> Found
+    requires { ⌜ Bounded (now t) (now w) ⌝ }
+    ensures { λ r. ⌜ r ≡ firstBad (rule9 (now (t .entry)) (now (w .entry))) (lowsFrom (now (t .entry)) (now (w .entry))) ⌝ }
+{
+    let from = heads_from(t);
+    let ends = lows_from(t, w);
+    let mut i = 0;
+    while i < ends {
+        if !word_ok(t, w, from, i) {
+            return Found::At(i);
+        }
+        i += 1;
     }
-    ends_ok(lows, highs, i - ends)
+    Found::Nothing
+}
+
+// The first word that fails, where all before the ends pass: most words are ends, and each is one comparison.
+fn first_end<'a>(t: &'a [i32], w: &'a [i32]) -> Found
+    requires { ⌜ Bounded (now t) (now w) ⌝ }
+    requires { ⌜ firstBad (rule9 (now t) (now w)) (lowsFrom (now t) (now w)) ≡ Nothing ⌝ }
+    ensures { λ r. ⌜ r ≡ firstBad (rule9 (now (t .entry)) (now (w .entry))) (lowsFrom (now (t .entry)) (now (w .entry)) + intervalsOf (now (t .entry)) (now (w .entry))) ⌝ }
+{
+    let ends = lows_from(t, w);
+    let low = lows(t, w);
+    let high = highs(t, w);
+    let count = intervals(t, w);
+    let mut k = 0;
+    while k < count {
+        if !ends_ok(low, high, k) {
+            return Found::At(ends + k);
+        }
+        k += 1;
+    }
+    Found::Nothing
 }
 
 pub(crate) fn first_word<'a>(t: &'a [i32], w: &'a [i32]) -> Found
     requires { ⌜ Bounded (now t) (now w) ⌝ }
     ensures { λ r. ⌜ r ≡ firstBad (rule9 (now (t .entry)) (now (w .entry))) (lowsFrom (now (t .entry)) (now (w .entry)) + intervalsOf (now (t .entry)) (now (w .entry))) ⌝ }
 {
-    let from = heads_from(t);
-    let ends = lows_from(t, w);
-    let low = lows(t, w);
-    let high = highs(t, w);
-    let to = ends + intervals(t, w);
-    let mut i = 0;
-    while i < to {
-        if !word_ok(t, w, from, ends, low, high, i) {
-            return Found::At(i);
-        }
-        i += 1;
+    if let Found::At(i) = first_early(t, w) {
+        return Found::At(i);
     }
-    Found::Nothing
+    first_end(t, w)
 }

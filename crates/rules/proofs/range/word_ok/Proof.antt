@@ -15,47 +15,29 @@ held-ok-requires : tie.Need-held-ok-requires
 unfolding headsFrom
 held-ok-requires c κs =
     let pre = c .before .before .pre in
-    (pre .0 .mutexes, omega (arith, c .if2 .taken, pre .1 .0 .0, pre .0 .points))
+    (pre .0 .mutexes, omega (arith, c .if2 .taken, pre .1 .0, pre .0 .points))
 
 held : tie.Need-returns-2
 unfolding rule9
 held c =
     let past = c .before .before in
     let pre = past .before .pre in
-    rw (le-ltb _ 4 (past .if1 .left), ← pre .1 .0 .0, lt-ltb _ _ (c .before .if2 .taken)) (c .held-ok .ensures)
+    rw (le-ltb _ 4 (past .if1 .left), ← pre .1 .0, lt-ltb _ _ (c .before .if2 .taken)) (c .held-ok .ensures)
 
 head : tie.Need-returns-3
 unfolding rule9
 head c =
-    let heads = c .before .before .before in
-    let past = heads .before in
-    let pre = past .before .pre in
-    rw (
-      le-ltb _ 4 (past .if1 .left),
-      ← pre .1 .0 .0,
-      le-ltb _ _ (heads .if2 .left),
-      ← pre .1 .0 .1,
-      lt-ltb _ _ (c .before .before .if3 .taken),
-      ← c .before .number-at .ensures .0,
-    )
-    (c .head-ok .ensures)
-
-end : tie.Need-returns-4
-unfolding rule9
-end c =
     let heads = c .before .before in
     let past = heads .before in
     let pre = past .before .pre in
     rw (
       le-ltb _ 4 (past .if1 .left),
-      ← pre .1 .0 .0,
+      ← pre .1 .0,
       le-ltb _ _ (heads .if2 .left),
-      ← pre .1 .0 .1,
-      le-ltb _ _ (c .before .if3 .left),
-      ← pre .1 .1 .0,
-      ← pre .1 .1 .1,
+      lt-ltb _ _ (pre .1 .1),
+      ← c .before .number-at .ensures .0,
     )
-    (c .ends-ok .ensures)
+    (c .head-ok .ensures)
 
 pub word-ok-spec : {M : Type 1} → statement M
 word-ok-spec =
@@ -66,6 +48,4 @@ word-ok-spec =
     held
     (λ c κs. search needs)
     (λ c κs. search needs)
-    head
-    (λ c κs. search needs)
-    end)
+    head)
