@@ -16,6 +16,7 @@ use Rattle.table.specs.Layout.{sizesOf}
 use Rattle.rules.specs.Proposal.{rowsOf, entriesOf, intervalsOf, headsFrom, lowsFrom, proposalLength, headsOf, headOf, lowsOf, highsOf, rowAt, entriesAt}
 use Rattle.rules.specs.Rules.{headInRange, rule9}
 use Rattle.rules.specs.Ready.{Apart, Readable, Ready}
+use Rattle.rules.proofs.ProposalLaws.{intervals-bound}
 
 module _ {t w : List ℤ} (r : Ready t w) where
   -- ---- how long the parts are
@@ -44,6 +45,29 @@ module _ {t w : List ℤ} (r : Ready t w) where
   unfolding intervalsOf
   row-room k l = let below = mul-le-mul-right (sizesOf t .variables) l in omega (arith, suc-mul k (sizesOf t .variables))
 
+  -- the ends of v in row k, straight from all low and all high ends: `at` is the number of the interval
+  module _ (k v : ℕ) (l : v < sizesOf t .variables) where
+    module _ {at : ℕ} (e : at ≡ k * sizesOf t .variables + v) (h : k < rowsOf t) where
+      inside : at < intervalsOf t w
+      inside = omega (arith, row-room k h)
+
+      pub at-bound : at < 4736
+      at-bound = omega (arith, inside, intervals-bound (r .bounded))
+
+      pub low-there : {low : List ℤ} → low ≡ lowsOf t w → at < length low
+      low-there f = rw (f, lows-length) inside
+
+      pub high-there : {high : List ℤ} → high ≡ highsOf t w → at < length high
+      high-there f = rw (f, highs-length) inside
+
+    pub row-low : wordOf (rowAt t w k .lows) v ≡ wordOf (lowsOf t w) (k * sizesOf t .variables + v)
+    unfolding rowAt
+    row-low = part-word (lowsOf t w) (k * sizesOf t .variables) (sizesOf t .variables) v l
+
+    pub row-high : wordOf (rowAt t w k .highs) v ≡ wordOf (highsOf t w) (k * sizesOf t .variables + v)
+    unfolding rowAt
+    row-high = part-word (highsOf t w) (k * sizesOf t .variables) (sizesOf t .variables) v l
+
   row-lows-length : (k : ℕ) → k < rowsOf t → length (rowAt t w k .lows) ≡ sizesOf t .variables
   unfolding rowAt
   row-lows-length k l = part-length (lowsOf t w) (k * sizesOf t .variables) (sizesOf t .variables) (rw lows-length (row-room k l))
@@ -53,7 +77,7 @@ module _ {t w : List ℤ} (r : Ready t w) where
   row-highs-length k l = part-length (highsOf t w) (k * sizesOf t .variables) (sizesOf t .variables) (rw highs-length (row-room k l))
 
   -- ---- refusal 9 at the variable of an entry's head, and at its ends
-  head-variable : (i : ℕ) → i < entriesOf w → headOf t w i 2 < sizesOf t .variables
+  pub head-variable : (i : ℕ) → i < entriesOf w → headOf t w i 2 < sizesOf t .variables
   unfolding rule9 headOf headsOf headsFrom lowsFrom headInRange
   head-variable i l =
       let at = headsFrom t + (3 * i + 2) in

@@ -94,11 +94,8 @@ module _ {t w : List ℤ} {s : Scope} (e : s ≡ wholeOf t w) (b : Bounded t w) 
   pub points-there : (s .points .from ≤ s .points .to) × (s .points .to ≤ sizesOf t .points)
   points-there = rw e (omega arith, omega arith)
 
-  pub points-rest : (s .points .from ≤ s .points .to) × (s .points .to ≤ sizesOf t .points + entriesOf w)
-  points-rest = rw e (omega arith, omega arith)
-
-  pub entries-rest : (s .entries .from ≤ s .entries .to) × (s .entries .to ≤ sizesOf t .points + entriesOf w)
-  entries-rest = rw e (omega arith, omega arith)
+  pub entries-there : (sizesOf t .points ≤ s .entries .from) × (s .entries .from ≤ s .entries .to) × (s .entries .to ≤ sizesOf t .points + entriesOf w)
+  entries-there = rw e (omega arith, omega arith, omega arith)
 
 -- ---- marks
 pub marks-kept : (t w : List ℤ) (m : List ℕ) {v : Stage} {rule p : ℕ} → v ≡ readyOf t w → v ≡ Broken rule p → m ≡ marksOf t w m

@@ -1,21 +1,26 @@
 -- Refusal 16 by its tests.
 -- Assumes nothing.
-use Prim.Native.Nat.{ℕ, _-_, _<_, _≤_}
-use mathlib.Core.Path.{_≡_}
-use mathlib.Core.Bool.{Bool, true, false, not, and-true}
+use Prim.Native.Nat.{ℕ, _+_, _-_, _*_, _<_, _≤_}
+use mathlib.Core.Path.{_≡_, refl, ap}
+use mathlib.Core.Bool.{Bool, true, false, not, _&&_, and-true}
 use mathlib.Core.List.{List}
 use native.Mathlib.Omega.{arith}
 use borrow.Author.Tests.{lt-ltb, le-ltb}
 use lib.IntN.{ℤ}
+use lib.Signed.{leZ}
+use Rattle.words.specs.Words.{wordOf}
 use Rattle.table.specs.declared.Point.{Point}
 use Rattle.table.specs.declared.Point.the-variants.{Unlock}
 use Rattle.table.specs.Layout.{sizesOf, pointsOf}
 use Rattle.table.specs.Decode.{pointOf}
 use Rattle.table.specs.Passes.{Passes, FormedPoint}
 use Rattle.rules.specs.Held.{hasOf}
-use Rattle.rules.specs.Proposal.{heldOf, reachedOf, headOf, rowAt, restAt}
+use Rattle.rules.specs.Proposal.{entriesOf, heldOf, reachedOf, headOf, rowAt, restAt}
 use Rattle.rules.specs.Outcomes.{Outcome, rowWithinOf, outcomeIf, onlyIf, outcomesBy, outcomesOf}
 use Rattle.rules.specs.Rules.{implies, allOutcomes, takes, rests, restPoint, restEntry, rule16}
+use Rattle.rules.specs.Ready.{Parts, Ready}
+use Rattle.rules.proofs.DisturbLaws.{takes-is, head-at}
+use Rattle.rules.proofs.PartsLaws.{readable, head-variable, row-low, row-high}
 
 -- the mutex of an unlock is one of the table's, which are at most 8
 unlock-formed : (t : List ℤ) (p : ℕ) (x : Point) {m q : ℕ} → x ≡ Unlock m q → FormedPoint t p x → m < sizesOf t .mutexes
@@ -59,13 +64,18 @@ module _ (t w : List ℤ) (p : ℕ) where
   unfolding rule16
   rest-at-entry l q = rw (le-ltb p (sizesOf t .points) l) q
 
--- ---- at an entry and a mutex: the entry has the mutex, or lies within its rest row
+-- ---- at an entry and a mutex: the entry has the mutex, or lies within its rest row, whose ends are read straight from all low and all high ends
 abbrev pub entryRests : List ℤ → List ℤ → ℕ → ℕ → Bool
 entryRests t w i m = implies (not (hasOf (headOf t w i 1) m)) (takes t w (restAt t w m) i)
 
-module _ (t w : List ℤ) (i m : ℕ) where
-  pub has-mutex : hasOf (headOf t w i 1) m ≡ true → true ≡ entryRests t w i m
-  has-mutex e = rw e
-
-  pub lacks-mutex : {b : Bool} → hasOf (headOf t w i 1) m ≡ false → b ≡ takes t w (restAt t w m) i → b ≡ entryRests t w i m
-  lacks-mutex e q = rw e q
+module _ {t w h from to low high : List ℤ} (r : Ready t w) (parts : Parts t w h from to low high) (i m : ℕ) where
+  pub entry-tested : i < entriesOf w → m < sizesOf t .mutexes → let k = (sizesOf t .points + m) * sizesOf t .variables + headOf t w i 2 in
+      implies (not (hasOf (headOf t w i 1) m)) (leZ (wordOf low k) (wordOf from i) && leZ (wordOf to i) (wordOf high k)) ≡ entryRests t w i m
+  entry-tested li lm =
+      let row = sizesOf t .points + m in
+      let v = headOf t w i 2 in
+      let below = head-variable r i li in
+      let apart = parts .apart in
+      ap (implies (not (hasOf (headOf t w i 1) m)))
+      (rw (parts .rows .lows, parts .rows .highs, ← row-low r row v below, ← row-high r row v below, ← head-at apart i 2)
+      (takes-is apart i (readable r row i apart refl refl (omega arith) li)))

@@ -27,7 +27,7 @@ ghost use Rattle.rules.specs.Ready.{Apart, Readable, Ready};
 ghost use Rattle.rules.specs.Examine.{firstBadIn};
 
 // The word at an index that is one.
-fn word_at(ws: &[i32], i: usize) -> i32
+pub(crate) fn word_at(ws: &[i32], i: usize) -> i32
     requires { ⌜ i < length (now ws) ⌝ }
     ensures { λ r. ⌜ r ≡ wordOf (now (ws .entry)) i ⌝ }
 {
@@ -35,7 +35,7 @@ fn word_at(ws: &[i32], i: usize) -> i32
 }
 
 // A word that isn't below 0, as a number.
-fn natural(z: i32) -> usize
+pub(crate) fn natural(z: i32) -> usize
     requires { ⌜ numberOf z < 4294967295 ⌝ }
     ensures { λ r. ⌜ r ≡ numberOf z ⌝ }
 {
@@ -43,14 +43,14 @@ fn natural(z: i32) -> usize
 }
 
 // Whether a to b lies in lo to hi.
-fn is_inside(a: i32, b: i32, lo: i32, hi: i32) -> bool
+pub(crate) fn is_inside(a: i32, b: i32, lo: i32, hi: i32) -> bool
     ensures { λ r. ⌜ r ≡ leZ lo a && leZ b hi ⌝ }
 {
     (lo <= a) & (b <= hi)
 }
 
 // Whether the row's interval holds entry i; the heads and the ends of the entries are at hand.
-pub(crate) fn is_taken<'a>(
+fn is_taken<'a>(
     t: &'a [i32],
     w: &'a [i32],
     heads: &'a [i32],

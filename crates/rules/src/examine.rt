@@ -9,7 +9,8 @@ use crate::proposal::intervals;
 use crate::proposal::lows_from;
 use crate::range::first_size;
 use crate::range::first_word;
-use crate::rest::first_rest;
+use crate::rest::first_rest_entry;
+use crate::rest::first_rest_point;
 use crate::start::first_start;
 use table::layout::sizes;
 use table::validate::validate;
@@ -144,10 +145,10 @@ fn shared<'a>(t: &'a [i32], w: &'a [i32]) -> Stage
     if let Found::At(p) = first_disturbed(t, w, points) {
         return Stage::Broken(15, p);
     }
-    if let Found::At(p) = first_rest(t, w, points) {
+    if let Found::At(p) = first_rest_point(t, w, points) {
         return Stage::Broken(16, p);
     }
-    if let Found::At(p) = first_rest(t, w, held) {
+    if let Found::At(p) = first_rest_entry(t, w, held) {
         return Stage::Broken(16, p);
     }
     Stage::Passed

@@ -108,7 +108,7 @@ pub(crate) fn highs<'a>(t: &'a [i32], w: &'a [i32]) -> &'a [i32]
 }
 
 // Row k of the low or of the high ends.
-pub(crate) fn row_in(ends: &[i32], variables: usize, k: usize) -> &[i32]
+fn row_in(ends: &[i32], variables: usize, k: usize) -> &[i32]
     requires { ⌜ (variables ≤ 4294967295) × (k ≤ 4294967295) ⌝ }
     ensures { λ r. ⌜ now r ≡ partOf (now (ends .entry)) (k * variables) variables ⌝ }
 {

@@ -1,6 +1,8 @@
 // Refusal 16: an unlock within the mutex's rest row, and an entry within the rest rows of the mutexes that it lacks.
 use crate::Places;
-use crate::disturb::is_taken;
+use crate::disturb::is_inside;
+use crate::disturb::natural;
+use crate::disturb::word_at;
 use crate::held::has;
 use crate::proposal::entry_highs;
 use crate::proposal::entry_lows;
@@ -11,7 +13,6 @@ use crate::proposal::highs;
 use crate::proposal::is_reached;
 use crate::proposal::lows;
 use crate::proposal::row_highs;
-use crate::proposal::row_in;
 use crate::proposal::row_lows;
 use crate::rows::row_within;
 use table::Point;
@@ -20,15 +21,18 @@ use table::layout::point_words;
 use words::Found;
 use words::number_at;
 ghost use mathlib.Core.Path.{_≡_};
-ghost use mathlib.Core.Bool.{not};
+ghost use mathlib.Core.Bool.{not, _&&_};
 ghost use Prim.Native.Nat.{_+_, _<_, _≤_};
-ghost use Rattle.table.specs.Layout.{sizesOf};
+ghost use lib.ListN.{length};
+ghost use lib.Signed.{leZ};
+ghost use Rattle.words.specs.Words.{wordOf};
+ghost use Rattle.table.specs.Layout.{sizesOf, pointsOf};
 ghost use Rattle.table.specs.Passes.{Passes};
 ghost use Rattle.table.specs.declared.Point.the-variants.{Unlock};
 ghost use Rattle.rules.specs.Held.{hasOf};
-ghost use Rattle.rules.specs.Proposal.{entriesOf, heldOf, headOf, rowAt, restAt};
+ghost use Rattle.rules.specs.Proposal.{entriesOf, heldOf, rowAt};
 ghost use Rattle.rules.specs.Outcomes.{outcomesBy};
-ghost use Rattle.rules.specs.Rules.{implies, takes, rests, restPoint, restEntry, rule16};
+ghost use Rattle.rules.specs.Rules.{implies, rests, restPoint, restEntry, rule16};
 ghost use Rattle.rules.specs.Ready.{Bounded, Rows, Parts, Ready};
 ghost use Rattle.rules.specs.Examine.{firstBadIn};
 
@@ -63,12 +67,14 @@ fn unlock_rests<'a>(
 fn rest_point<'a>(
     t: &'a [i32],
     w: &'a [i32],
+    points: &'a [i32],
     all_lows: &'a [i32],
     all_highs: &'a [i32],
     p: usize,
 ) -> bool
     requires { ⌜ Passes (now t) ⌝ }
     requires { ⌜ Bounded (now t) (now w) ⌝ }
+    requires { ⌜ now points ≡ pointsOf (now t) ⌝ }
     requires { ⌜ Rows (now t) (now w) (now «all_lows») (now «all_highs») ⌝ }
     requires { ⌜ p < sizesOf (now t) .points ⌝ }
     ensures { λ r. ⌜ r ≡ restPoint (now (t .entry)) (now (w .entry)) p ⌝ }
@@ -76,7 +82,7 @@ fn rest_point<'a>(
     if !is_reached(held(w, p)) {
         return true;
     }
-    let x = point_at(point_words(t), p);
+    let x = point_at(points, p);
     match x {
         Point::End => true,
         Point::Assign(_, _, _) => true,
@@ -86,40 +92,46 @@ fn rest_point<'a>(
     }
 }
 
-// Whether entry i has the mutex m, or lies within its rest row.
-fn rests_at<'a>(
-    t: &'a [i32],
-    w: &'a [i32],
-    heads: &'a [i32],
-    from: &'a [i32],
-    to: &'a [i32],
-    all_lows: &'a [i32],
-    all_highs: &'a [i32],
-    i: usize,
-    m: usize,
-) -> bool
+// The points of a range; what each reads is cut once, before the walk.
+pub(crate) fn first_rest_point<'a>(t: &'a [i32], w: &'a [i32], r: Places) -> Found
     requires { ⌜ Ready (now t) (now w) ⌝ }
-    requires { ⌜ Parts (now t) (now w) (now heads) (now from) (now to) (now «all_lows») (now «all_highs») ⌝ }
-    requires { ⌜ (i < entriesOf (now w)) × (m < sizesOf (now t) .mutexes) ⌝ }
-    ensures { λ r. ⌜ r ≡ implies (not (hasOf (headOf (now (t .entry)) (now (w .entry)) i 1) m)) (takes (now (t .entry)) (now (w .entry)) (restAt (now (t .entry)) (now (w .entry)) m) i) ⌝ }
+    requires { ⌜ (r .from ≤ r .to) × (r .to ≤ sizesOf (now t) .points) ⌝ }
+    ensures { λ x. ⌜ x ≡ firstBadIn (rule16 (now (t .entry)) (now (w .entry))) r ⌝ }
 {
-    if has(head_in(heads, i, 1), m) {
-        return true;
+    let points = point_words(t);
+    let all_lows = lows(t, w);
+    let all_highs = highs(t, w);
+    let mut p = r.from;
+    while p < r.to {
+        if !rest_point(t, w, points, all_lows, all_highs, p) {
+            return Found::At(p);
+        }
+        p += 1;
     }
-    let variables = number_at(t, 1);
-    let rest = number_at(t, 3) + m;
-    is_taken(
-        t,
-        w,
-        heads,
-        from,
-        to,
-        row_in(all_lows, variables, rest),
-        row_in(all_highs, variables, rest),
-        i,
-    )
+    Found::Nothing
 }
 
+// Whether the held set s has the mutex m, or a to b lies within the interval number k.
+fn rests_at<'a>(
+    lows: &'a [i32],
+    highs: &'a [i32],
+    s: usize,
+    m: usize,
+    a: i32,
+    b: i32,
+    k: usize,
+) -> bool
+    requires { ⌜ m < 8 ⌝ }
+    requires { ⌜ (k < length (now lows)) × (k < length (now highs)) ⌝ }
+    ensures { λ r. ⌜ r ≡ implies (not (hasOf s m)) (leZ (wordOf (now (lows .entry)) k) a && leZ b (wordOf (now (highs .entry)) k)) ⌝ }
+{
+    if has(s, m) {
+        return true;
+    }
+    is_inside(a, b, word_at(lows, k), word_at(highs, k))
+}
+
+// Entry i and each mutex: the entry is read once, and its variable's interval in a rest row straight from all low and all high ends.
 fn rest_entry<'a>(
     t: &'a [i32],
     w: &'a [i32],
@@ -135,10 +147,17 @@ fn rest_entry<'a>(
     requires { ⌜ i < entriesOf (now w) ⌝ }
     ensures { λ r. ⌜ r ≡ restEntry (now (t .entry)) (now (w .entry)) i ⌝ }
 {
+    let s = head_in(heads, i, 1);
+    let v = natural(word_at(heads, 3 * i + 2));
+    let a = word_at(from, i);
+    let b = word_at(to, i);
+    let variables = number_at(t, 1);
     let mutexes = number_at(t, 2);
+    let points = number_at(t, 3);
     let mut m = 0;
     while m < mutexes {
-        if !rests_at(t, w, heads, from, to, all_lows, all_highs, i, m) {
+        let k = (points + m) * variables + v;
+        if !rests_at(all_lows, all_highs, s, m, a, b, k) {
             return false;
         }
         m += 1;
@@ -146,32 +165,10 @@ fn rest_entry<'a>(
     true
 }
 
-// Refusal 16 at a place: a point, or points + entry.
-fn rest_ok<'a>(
-    t: &'a [i32],
-    w: &'a [i32],
-    heads: &'a [i32],
-    from: &'a [i32],
-    to: &'a [i32],
-    all_lows: &'a [i32],
-    all_highs: &'a [i32],
-    place: usize,
-) -> bool
+// The entries of a range of places, which are points + entry.
+pub(crate) fn first_rest_entry<'a>(t: &'a [i32], w: &'a [i32], r: Places) -> Found
     requires { ⌜ Ready (now t) (now w) ⌝ }
-    requires { ⌜ Parts (now t) (now w) (now heads) (now from) (now to) (now «all_lows») (now «all_highs») ⌝ }
-    requires { ⌜ place < sizesOf (now t) .points + entriesOf (now w) ⌝ }
-    ensures { λ r. ⌜ r ≡ rule16 (now (t .entry)) (now (w .entry)) place ⌝ }
-{
-    let points = number_at(t, 3);
-    if place < points {
-        return rest_point(t, w, all_lows, all_highs, place);
-    }
-    rest_entry(t, w, heads, from, to, all_lows, all_highs, place - points)
-}
-
-pub(crate) fn first_rest<'a>(t: &'a [i32], w: &'a [i32], r: Places) -> Found
-    requires { ⌜ Ready (now t) (now w) ⌝ }
-    requires { ⌜ (r .from ≤ r .to) × (r .to ≤ sizesOf (now t) .points + entriesOf (now w)) ⌝ }
+    requires { ⌜ (sizesOf (now t) .points ≤ r .from) × (r .from ≤ r .to) × (r .to ≤ sizesOf (now t) .points + entriesOf (now w)) ⌝ }
     ensures { λ x. ⌜ x ≡ firstBadIn (rule16 (now (t .entry)) (now (w .entry))) r ⌝ }
 {
     let all = heads(t, w);
@@ -179,9 +176,10 @@ pub(crate) fn first_rest<'a>(t: &'a [i32], w: &'a [i32], r: Places) -> Found
     let to = entry_highs(t, w);
     let all_lows = lows(t, w);
     let all_highs = highs(t, w);
+    let points = number_at(t, 3);
     let mut place = r.from;
     while place < r.to {
-        if !rest_ok(t, w, all, from, to, all_lows, all_highs, place) {
+        if !rest_entry(t, w, all, from, to, all_lows, all_highs, place - points) {
             return Found::At(place);
         }
         place += 1;

@@ -8,7 +8,7 @@ use Rattle.words.specs.Stages.{refuse}
 use Rattle.words.proofs.StageLaws.{pass, halt}
 use Rattle.rules.specs.Rules.{rule15, rule16}
 use Rattle.rules.specs.Examine.{wholeOf, firstBadIn, sharedStage}
-use Rattle.rules.proofs.ReadyLaws.{points-there, points-rest, entries-rest}
+use Rattle.rules.proofs.ReadyLaws.{points-there, entries-there}
 use Rattle.rules.proofs.examine.shared.Statement.{statement}
 use Rattle.rules.proofs.examine.shared.Tie as tie
 
@@ -26,14 +26,14 @@ disturbed-searched :
 disturbed-searched c = rw (c .before .before .before .whole .ensures) at (c .first-disturbed .ensures)
 
 rest-searched :
-    (c : tie.After-first-rest) → let a = to-whole (c .before) .before .args in
-    c .first-rest .result ≡ firstBadIn (rule16 (now (a .t)) (now (a .w))) (wholeOf (now (a .t)) (now (a .w)) .points)
-rest-searched c = rw (to-whole (c .before) .whole .ensures) at (c .first-rest .ensures)
+    (c : tie.After-first-rest-point) → let a = to-whole (c .before) .before .args in
+    c .first-rest-point .result ≡ firstBadIn (rule16 (now (a .t)) (now (a .w))) (wholeOf (now (a .t)) (now (a .w)) .points)
+rest-searched c = rw (to-whole (c .before) .whole .ensures) at (c .first-rest-point .ensures)
 
 entries-searched :
-    (c : tie.After-first-rest2) → let a = to-whole (to-disturbed (c .before)) .before .args in
-    c .first-rest2 .result ≡ firstBadIn (rule16 (now (a .t)) (now (a .w))) (wholeOf (now (a .t)) (now (a .w)) .entries)
-entries-searched c = rw (to-whole (to-disturbed (c .before)) .whole .ensures) at (c .first-rest2 .ensures)
+    (c : tie.After-first-rest-entry) → let a = to-whole (to-disturbed (c .before)) .before .args in
+    c .first-rest-entry .result ≡ firstBadIn (rule16 (now (a .t)) (now (a .w))) (wholeOf (now (a .t)) (now (a .w)) .entries)
+entries-searched c = rw (to-whole (to-disturbed (c .before)) .whole .ensures) at (c .first-rest-entry .ensures)
 
 -- the stage, where the rules before were passed
 passed15 :
@@ -61,14 +61,14 @@ shared-spec =
     (λ c κs.
     let whole = to-whole c in
     let pre = whole .before .pre in
-    (pre, points-rest (whole .whole .ensures) (pre .bounded)))
+    (pre, points-there (whole .whole .ensures) (pre .bounded)))
     (λ c. search needs)
     (λ c. let rest = c .before .before .before in passed15 (rest .before) (halt _ (sym (rest-searched rest) ∙ c .before .p2 .given .1)))
     (λ c. search needs)
     (λ c κs.
     let whole = to-whole (to-disturbed c) in
     let pre = whole .before .pre in
-    (pre, entries-rest (whole .whole .ensures) (pre .bounded)))
+    (pre, entries-there (whole .whole .ensures) (pre .bounded)))
     (λ c. search needs)
     (λ c. let rest = c .before .before .before in passed16 (rest .before) (halt _ (sym (entries-searched rest) ∙ c .before .p3 .given .1)))
     (λ c. search needs)

@@ -17,25 +17,25 @@ use Rattle.rules.proofs.rest.rest_point.Statement.{statement}
 use Rattle.rules.proofs.rest.rest_point.Tie as tie
 
 -- what was read at the point, and the test of what stands there
-read : (c : tie.After-point-at) → let start = c .before .before .before .before .before .args in
+read : (c : tie.After-point-at) → let start = c .before .before .before .before .args in
     c .point-at .result ≡ pointOf (pointsOf (now (start .t))) (start .p)
-read c = rw (c .before .point-words .ensures) at (c .point-at .ensures)
+read c = rw (c .before .before .before .before .pre .1 .1 .0) at (c .point-at .ensures)
 
-at : (c : tie.After-point-at) {b : Bool} (x : Point) → let start = c .before .before .before .before .before .args in
+at : (c : tie.After-point-at) {b : Bool} (x : Point) → let start = c .before .before .before .before .args in
     c .point-at .result ≡ x
     → b ≡ rests (now (start .t)) (now (start .w)) x (outcomesBy (now (start .t)) (now (start .w)) x (heldOf (now (start .w)) (start .p)) (rowAt (now (start .t)) (now (start .w)) (start .p)))
     → b ≡ restPoint (now (start .t)) (now (start .w)) (start .p)
 at c x is q =
-    let reach = c .before .before .before in
-    let is-reached = holds-not (rw (reach .before .held .ensures .0) at (reach .is-reached .ensures)) (c .before .before .if1 .left) in
+    let reach = c .before .before in
+    let is-reached = holds-not (rw (reach .before .held .ensures .0) at (reach .is-reached .ensures)) (c .before .if1 .left) in
     reached _ _ _ x is-reached (sym (read c) ∙ is) q
 
 unlock-rests-requires : tie.Need-unlock-rests-requires
 unlock-rests-requires c κs =
     let point = c .before .before .before in
-    let pre = point .before .before .before .before .before .pre in
-    let below = pre .1 .1 .1 in
-    (pre .1 .0, (pre .1 .1 .0, (unlock-below _ _ (pre .0) below (sym (read point) ∙ c .before .x .given .1), omega (arith, below, pre .1 .0 .points))))
+    let pre = point .before .before .before .before .pre in
+    let below = pre .1 .1 .1 .1 in
+    (pre .1 .0, (pre .1 .1 .1 .0, (unlock-below _ _ (pre .0) below (sym (read point) ∙ c .before .x .given .1), omega (arith, below, pre .1 .0 .points))))
 
 returns : tie.Need-returns
 returns c =
@@ -50,7 +50,6 @@ rest-point-spec =
     (λ c κs. search needs)
     (λ c κs. search needs)
     returns
-    (λ c κs. search needs)
     (λ c κs. search needs)
     (λ c. search needs)
     (λ c. search needs)
