@@ -38,9 +38,9 @@ module _ (t w : List ℤ) (u s i : ℕ) (r : Row) where
   pub inside : takes t w r i ≡ true → false ≡ not (leaves t w u s r i)
   inside e = rw e (sym (ap not (implies-true (disturbs t w u s i))))
 
-  pub same-task : takes t w r i ≡ false → headOf t w i 0 ≡ u → false ≡ not (leaves t w u s r i)
+  pub same-task : headOf t w i 0 ≡ u → false ≡ not (leaves t w u s r i)
   unfolding disturbs
-  same-task f e = rw (eq-eqb (headOf t w i 0) u e)
+  same-task e = rw (eq-eqb (headOf t w i 0) u e)
 
   pub by-sets : {b : Bool} → takes t w r i ≡ false → (headOf t w i 0 ≡ u → ⊥) → b ≡ disjointOf (headOf t w i 1) s → b ≡ not (leaves t w u s r i)
   unfolding disturbs

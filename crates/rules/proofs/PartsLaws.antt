@@ -1,7 +1,7 @@
 -- What refusals 7 and 9 leave of a proposal: its parts are whole, its heads are in range, its ends in order, so that an entry can be read where it lies.
 -- Assumes nothing.
-use Prim.Native.Nat.{ℕ, _+_, _-_, _*_, _%_, _<_, _≤_}
-use mathlib.Core.Path.{_≡_, refl, sym, ap, _∙_}
+use Prim.Native.Nat.{ℕ, _+_, _-_, _*_, _<_, _≤_}
+use mathlib.Core.Path.{_≡_, sym, _∙_}
 use mathlib.Core.Bool.{true}
 use mathlib.Core.List.{List}
 use native.Mathlib.Nat.{mul-le-mul-right, suc-mul, mul-add-mod-self-left}
@@ -10,13 +10,14 @@ use borrow.Author.Tests.{lt-ltb, le-ltb, ltb-true}
 use lib.IntN.{ℤ}
 use lib.ListN.{length}
 use lib.Signed.{leZ}
-use Rattle.words.specs.Words.{wordOf, numberOf, numberAt}
+use Rattle.words.specs.Words.{wordOf}
 use Rattle.words.proofs.PartLaws.{part-word, part-length}
 use Rattle.table.specs.Layout.{sizesOf}
 use Rattle.rules.specs.Proposal.{rowsOf, entriesOf, intervalsOf, headsFrom, lowsFrom, proposalLength, headsOf, headOf, lowsOf, highsOf, rowAt, entriesAt}
 use Rattle.rules.specs.Rules.{headInRange, rule9}
 use Rattle.rules.specs.Ready.{Apart, Readable, Ready}
 use Rattle.rules.proofs.ProposalLaws.{intervals-bound}
+use Rattle.rules.proofs.RangeLaws.{end-is}
 
 module _ {t w : List ℤ} (r : Ready t w) where
   -- ---- how long the parts are
@@ -92,18 +93,11 @@ module _ {t w : List ℤ} (r : Ready t w) where
       rw (part-word w (headsFrom t) (3 * entriesOf w) (3 * i + 2) (omega arith)) (ltb-true _ _ told)
 
   entry-ordered : (i : ℕ) → i < entriesOf w → leZ (wordOf (entriesAt t w .lows) i) (wordOf (entriesAt t w .highs) i) ≡ true
-  unfolding rule9 entriesAt headsFrom lowsFrom intervalsOf
+  unfolding entriesAt intervalsOf
   entry-ordered i l =
       let rows = rowsOf t * sizesOf t .variables in
-      let at = lowsFrom t w + (rows + i) in
-      let there : lowsFrom t w + (rows + i) - lowsFrom t w ≡ rows + i = omega arith in
-      let told = rw (
-        le-ltb at 4 (omega arith),
-        le-ltb at (headsFrom t) (omega arith),
-        le-ltb at (lowsFrom t w) (omega arith),
-        there,
-      ) at (r .range at (omega arith)) in
-      rw (part-word (lowsOf t w) rows (entriesOf w) i l, part-word (highsOf t w) rows (entriesOf w) i l) told
+      rw (part-word (lowsOf t w) rows (entriesOf w) i l, part-word (highsOf t w) rows (entriesOf w) i l)
+      (sym (end-is t w (rows + i)) ∙ r .range (lowsFrom t w + (rows + i)) (omega arith))
 
   -- ---- an entry against row k
   pub readable : {h from to lows highs : List ℤ} (k i : ℕ) → Apart t w h from to → lows ≡ rowAt t w k .lows → highs ≡ rowAt t w k .highs

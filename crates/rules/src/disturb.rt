@@ -10,44 +10,21 @@ use crate::proposal::held;
 use crate::proposal::highs;
 use crate::proposal::is_reached;
 use crate::proposal::lows;
+use crate::proposal::natural;
 use crate::proposal::row_highs;
 use crate::proposal::row_lows;
+use crate::proposal::word_at;
+use crate::rows::is_inside;
 use table::layout::task_of;
 use words::Found;
 ghost use mathlib.Core.Path.{_≡_};
-ghost use mathlib.Core.Bool.{not, _&&_};
-ghost use Prim.Native.Nat.{_<_, _≤_};
-ghost use lib.ListN.{length};
-ghost use lib.Signed.{leZ};
-ghost use Rattle.words.specs.Words.{wordOf, numberOf};
+ghost use mathlib.Core.Bool.{not};
+ghost use Prim.Native.Nat.{_≤_};
 ghost use Rattle.table.specs.Layout.{sizesOf};
 ghost use Rattle.analysis.specs.Rows.{rowOf};
 ghost use Rattle.rules.specs.Rules.{implies, takes, disturbs, rule15};
 ghost use Rattle.rules.specs.Ready.{Apart, Readable, Ready};
 ghost use Rattle.rules.specs.Examine.{firstBadIn};
-
-// The word at an index that is one.
-pub(crate) fn word_at(ws: &[i32], i: usize) -> i32
-    requires { ⌜ i < length (now ws) ⌝ }
-    ensures { λ r. ⌜ r ≡ wordOf (now (ws .entry)) i ⌝ }
-{
-    ws[i]
-}
-
-// A word that isn't below 0, as a number.
-pub(crate) fn natural(z: i32) -> usize
-    requires { ⌜ numberOf z < 4294967295 ⌝ }
-    ensures { λ r. ⌜ r ≡ numberOf z ⌝ }
-{
-    z as usize
-}
-
-// Whether a to b lies in lo to hi.
-pub(crate) fn is_inside(a: i32, b: i32, lo: i32, hi: i32) -> bool
-    ensures { λ r. ⌜ r ≡ leZ lo a && leZ b hi ⌝ }
-{
-    (lo <= a) & (b <= hi)
-}
 
 // Whether the row's interval holds entry i; the heads and the ends of the entries are at hand.
 fn is_taken<'a>(

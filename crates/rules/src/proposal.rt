@@ -8,9 +8,10 @@ use words::part;
 use words::word;
 ghost use mathlib.Core.Path.{_≡_};
 ghost use mathlib.Core.Bool.{not};
-ghost use Prim.Native.Nat.{_+_, _*_, _≤_};
+ghost use Prim.Native.Nat.{_+_, _*_, _<_, _≤_};
 ghost use lib.Dec.{eqb};
-ghost use Rattle.words.specs.Words.{numberAt, partOf};
+ghost use lib.ListN.{length};
+ghost use Rattle.words.specs.Words.{wordOf, numberOf, numberAt, partOf};
 ghost use Rattle.interval.specs.Interval.{fromTo};
 ghost use Rattle.rules.specs.Proposal.{entriesOf, intervalsOf, headsFrom, lowsFrom, heldOf, headsOf, headOf, lowsOf, highsOf, rowAt, entriesAt, entryLow, entryHigh};
 ghost use Rattle.rules.specs.Ready.{Bounded};
@@ -51,6 +52,22 @@ pub(crate) fn heads<'a>(t: &'a [i32], w: &'a [i32]) -> &'a [i32]
     let from = heads_from(t);
     let count = 3 * entries(w);
     part(w, from, count)
+}
+
+// The word at an index that is one.
+pub(crate) fn word_at(ws: &[i32], i: usize) -> i32
+    requires { ⌜ i < length (now ws) ⌝ }
+    ensures { λ r. ⌜ r ≡ wordOf (now (ws .entry)) i ⌝ }
+{
+    ws[i]
+}
+
+// A word that isn't below 0, as a number.
+pub(crate) fn natural(z: i32) -> usize
+    requires { ⌜ numberOf z < 4294967295 ⌝ }
+    ensures { λ r. ⌜ r ≡ numberOf z ⌝ }
+{
+    z as usize
 }
 
 // The word k of the head of entry i: task, held set, variable.

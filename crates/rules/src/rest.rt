@@ -1,8 +1,5 @@
 // Refusal 16: an unlock within the mutex's rest row, and an entry within the rest rows of the mutexes that it lacks.
 use crate::Places;
-use crate::disturb::is_inside;
-use crate::disturb::natural;
-use crate::disturb::word_at;
 use crate::held::has;
 use crate::proposal::entry_highs;
 use crate::proposal::entry_lows;
@@ -12,8 +9,11 @@ use crate::proposal::held;
 use crate::proposal::highs;
 use crate::proposal::is_reached;
 use crate::proposal::lows;
+use crate::proposal::natural;
 use crate::proposal::row_highs;
 use crate::proposal::row_lows;
+use crate::proposal::word_at;
+use crate::rows::is_inside;
 use crate::rows::row_within;
 use table::Point;
 use table::decode::point_at;

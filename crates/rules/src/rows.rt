@@ -7,14 +7,22 @@ use interval::lattice::meet;
 use interval::lattice::within;
 use words::word;
 ghost use mathlib.Core.Path.{_≡_};
-ghost use mathlib.Core.Bool.{not};
+ghost use mathlib.Core.Bool.{not, _&&_};
 ghost use lib.ListN.{set};
+ghost use lib.Signed.{leZ};
 ghost use Rattle.words.specs.Words.{wordOf};
 ghost use Rattle.words.specs.First.{allBelow};
 ghost use Rattle.interval.specs.Integer.{minZ, maxZ};
 ghost use Rattle.interval.specs.Lattice.{isNoneOf, withinOf, meetOf};
 ghost use Rattle.analysis.specs.Rows.{rowOf, rangeOf, each};
 ghost use Rattle.rules.specs.Outcomes.{rowWithinOf};
+
+// Whether a to b lies in lo to hi.
+pub(crate) fn is_inside(a: i32, b: i32, lo: i32, hi: i32) -> bool
+    ensures { λ r. ⌜ r ≡ leZ lo a && leZ b hi ⌝ }
+{
+    (lo <= a) & (b <= hi)
+}
 
 // Whether each of so many intervals of a row a lies within that of a row b.
 pub(crate) fn row_within<'a>(

@@ -20,10 +20,7 @@ returns : tie.Need-returns
 returns c = inside _ _ _ _ _ _ (holds (c .before .is-taken .ensures) (c .if1 .taken))
 
 returns-2 : tie.Need-returns-2
-returns-2 c =
-    let task = c .before in
-    let taken = task .before .before in
-    same-task _ _ _ _ _ _ (fails (taken .is-taken .ensures) (task .before .if1 .left)) (sym (task-is task) ∙ c .if2 .taken)
+returns-2 c = let task = c .before in same-task _ _ _ _ _ _ (sym (task-is task) ∙ c .if2 .taken)
 
 returns-3 : tie.Need-returns-3
 returns-3 c =

@@ -1,6 +1,4 @@
 -- `run::step::stop` meets its contract: the node fits an i64, so it is stored as it is. Assumes nothing.
-use Prim.Native.Nat.{_≤_}
-use mathlib.Core.Path.{_≡_}
 use native.Mathlib.Omega.{arith}
 use borrow.Author.Needs.{needs}
 use lib.IntN.{pos}
