@@ -50,8 +50,8 @@ struct rangecheck_answer rangecheck_check(const int32_t *table, size_t table_len
                                           size_t alarms_len);
 
 /* Plays a table by a schedule. Played, with number 0: the last state stands in the first RANGECHECK_STATE_WORDS words of the answer, and later
-   words keep their contents. Refused by 1 to 6, as the check refuses a table: these words are 0. An answer of fewer words is never
-   written; the table's refusal is told first, then RANGECHECK_SHORT. */
+   words keep their contents. Refused by 1 to 6, as the check refuses a table, or then by RANGECHECK_SHORT, an answer of fewer words: the answer is
+   as it came. */
 struct rangecheck_answer rangecheck_run(const int32_t *table, size_t table_len, const int32_t *schedule, size_t schedule_len, int64_t *answer,
                                         size_t answer_len);
 

@@ -73,15 +73,14 @@ static void runs(void) {
     expect(says(rangecheck_run(bare, 24, schedule, 3, s, 47), RANGECHECK_SHORT, RANGECHECK_STATE_WORDS, 0), "an answer one word short");
     expect(says(rangecheck_run(bare, 24, schedule, 3, s, 0), RANGECHECK_SHORT, 48, 0), "an answer of no words");
     expect(says(rangecheck_run(bare, 23, schedule, 3, s, 47), 1, 23, 0), "the table's refusal before the answer's");
-    expect(all(s, 50, -77), "a short answer is never written");
     expect(says(rangecheck_run(bare, 23, schedule, 3, s, 48), 1, 23, 0), "a table refused");
-    expect(all(s, 48, 0) && all(s + 48, 2, -77), "a state of zeros");
+    expect(says(rangecheck_run(&word, 0, &word, 0, s, 50), 1, 0, 0), "an empty table");
+    expect(all(s, 50, -77), "a refusal changes no word of the answer");
 
     want[RANGECHECK_POINTS] = 0;
     want[RANGECHECK_VALUES] = 0;
     expect(says(rangecheck_run(bare, 24, &word, 0, s, 48), 0, 0, 0), "an empty schedule");
     expect(memcmp(s, want, sizeof want) == 0, "the starting state");
-    expect(says(rangecheck_run(&word, 0, &word, 0, s, 48), 1, 0, 0), "an empty table");
 
     expect(says(rangecheck_run(divides, 27, schedule, 3, s, 48), 0, 0, 0), "played into an error");
     expect(s[RANGECHECK_STOP_NODES] == 2 && s[RANGECHECK_STOP_KINDS] == RANGECHECK_ZERO, "stopped by the division");

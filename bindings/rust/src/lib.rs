@@ -202,8 +202,8 @@ pub fn run(table: &[i32], schedule: &[i32]) -> Result<State, Refusal> {
     })
 }
 
-/// The same, with the state's [`STATE_WORDS`] words written to the front of a slice; later words keep their contents. A table that is refused gives zeros. A
-/// slice that is too short is never written: after the table's refusals it is refused by 31.
+/// The same, with the state's [`STATE_WORDS`] words written to the front of a slice; later words keep their contents, and a refusal changes none. A
+/// slice that is too short is refused by 31, after the table's refusals.
 ///
 /// ```
 /// use rangecheck::{run_into, Refusal};
@@ -211,6 +211,7 @@ pub fn run(table: &[i32], schedule: &[i32]) -> Result<State, Refusal> {
 /// let table = [1, 1, 0, 1, 0, 1, 7, 0, 0, 0, 0];
 /// let mut words = [9; 49];
 /// assert_eq!(run_into(&table, &[], &mut words[..47]), Err(Refusal { number: 31, place: 48 }));
+/// assert_eq!(run_into(&table[..10], &[], &mut words), Err(Refusal { number: 1, place: 10 }));
 /// assert_eq!(words, [9; 49]);
 /// assert_eq!(run_into(&table, &[], &mut words), Ok(()));
 /// assert_eq!((words[8], words[48]), (7, 9));

@@ -72,7 +72,7 @@ fn runs() {
             ];
             assert_eq!(parts.concat(), state);
         } else {
-            assert_eq!(state, [0; STATE_WORDS]);
+            assert_eq!(state, [7; STATE_WORDS]);
         }
     }
 }

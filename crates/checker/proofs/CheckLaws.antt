@@ -8,7 +8,7 @@ use lib.IntN.{ℤ}
 use lib.ListN.{length, drop, replicate}
 use Rattle.words.specs.declared.Stage.the-variants.{Passed, Broken}
 use Rattle.words.specs.First.{unless}
-use Rattle.words.specs.Stages.{refuse, andThen}
+use Rattle.words.specs.Stages.{refuse, andThen, numbersBy, bufferBy}
 use Rattle.words.proofs.StageLaws.{andThen-first}
 use Rattle.table.specs.Layout.{sizesOf}
 use Rattle.table.specs.Validate.{validateOf}
@@ -17,23 +17,23 @@ use Rattle.rules.specs.Examine.{readyOf, examinedOf, marksBy, marksOf}
 use Rattle.checker.specs.declared.Verdict.{Verdict}
 use Rattle.checker.specs.declared.Verdict.the-variants.{Accepted, Refused}
 use Rattle.checker.specs.AlarmList.{pairsOf, alarmWords, markedAt}
-use Rattle.checker.specs.Check.{roomStage, stagesOf, verdictBy, checkOf, bufferBy, bufferOf}
+use Rattle.checker.specs.Check.{roomStage, stagesOf, verdictBy, checkOf, bufferOf, verdictNumbers, checkNumbers}
 use Rattle.checker.proofs.MarkLaws.{marks-words}
 
 module _ (t w : List ℤ) where
   -- ---- the answer v, and the buffer after it: what the function has to show at each `return`
   abbrev pub Answers : List ℤ → Verdict → List ℤ → Type 0
-  Answers buffer v after = (v ≡ checkOf t w (length buffer)) × (after ≡ bufferOf t w buffer)
+  Answers buffer v after = (v ≡ checkOf t w (length buffer)) × ((verdictNumbers v ≡ checkNumbers t w (length buffer)) × (after ≡ bufferOf t w buffer))
 
   -- by the stages
   refused : (buffer : List ℤ) {rule p : ℕ} → stagesOf t w (length buffer) ≡ Broken rule p → Answers buffer (Refused rule p) buffer
-  unfolding verdictBy checkOf bufferBy bufferOf
-  refused buffer e = rw e (refl, refl)
+  unfolding verdictBy checkOf verdictNumbers numbersBy bufferBy bufferOf
+  refused buffer e = rw e (refl, (refl, refl))
 
   accepted : (buffer : List ℤ) → stagesOf t w (length buffer) ≡ Passed
       → Answers buffer (Accepted (length (alarmWords t w) / 2)) (alarmWords t w ++ drop (length (alarmWords t w)) buffer)
-  unfolding verdictBy checkOf bufferBy bufferOf
-  accepted buffer e = rw e (refl, refl)
+  unfolding verdictBy checkOf verdictNumbers numbersBy bufferBy bufferOf
+  accepted buffer e = rw e (refl, (refl, refl))
 
   -- ---- one of 1 to 16 is broken
   broken-stages : (room : ℕ) {rule p : ℕ} → examinedOf t w ≡ Broken rule p → stagesOf t w room ≡ Broken rule p

@@ -1,14 +1,14 @@
 -- The verdict of a check and what it leaves in the alarm buffer (document 01, 'Refusals of a check').
 -- Assumes nothing.
 use Prim.Native.Nat.{ℕ, _/_}
-use mathlib.Core.List.{List, _++_}
+use mathlib.Core.List.{List}
 use lib.Dec.{leb}
 use lib.IntN.{ℤ}
-use lib.ListN.{length, drop}
+use lib.ListN.{length}
 use Rattle.words.specs.declared.Stage.{Stage}
 use Rattle.words.specs.declared.Stage.the-variants.{Passed, Broken}
 use Rattle.words.specs.First.{unless}
-use Rattle.words.specs.Stages.{refuse, andThen}
+use Rattle.words.specs.Stages.{refuse, andThen, Numbers, numbersBy, bufferBy}
 use Rattle.rules.specs.Examine.{examinedOf}
 use Rattle.checker.specs.declared.Verdict.{Verdict}
 use Rattle.checker.specs.declared.Verdict.the-variants.{Accepted, Refused}
@@ -30,23 +30,15 @@ verdictBy (Broken rule place) count = Refused rule place
 unfoldable pub checkOf : List ℤ → List ℤ → ℕ → Verdict
 checkOf t w room = verdictBy (stagesOf t w room) (length (alarmWords t w) / 2)
 
--- 'a refusal changes no buffer'; acceptance writes the pairs, 'later words keep their contents'
-unfoldable pub bufferBy : Stage → List ℤ → List ℤ → List ℤ
-bufferBy Passed ws buffer = ws ++ drop (length ws) buffer
-bufferBy (Broken rule place) ws buffer = buffer
-
+-- acceptance writes the pairs
 unfoldable pub bufferOf : List ℤ → List ℤ → List ℤ → List ℤ
 bufferOf t w buffer = bufferBy (stagesOf t w (length buffer)) (alarmWords t w) buffer
 
--- document 01's number, place and count for each case of the answer, 0 for what isn't given
-unfoldable pub refusalNumber : Verdict → ℕ
-refusalNumber (Accepted count) = 0
-refusalNumber (Refused rule place) = rule
+-- document 01's numbers of each case of the answer
+unfoldable pub verdictNumbers : Verdict → Numbers
+verdictNumbers (Accepted count) = record { number = 0; place = 0; count = count }
+verdictNumbers (Refused rule place) = record { number = rule; place = place; count = 0 }
 
-unfoldable pub refusalPlace : Verdict → ℕ
-refusalPlace (Accepted count) = 0
-refusalPlace (Refused rule place) = place
-
-unfoldable pub alarmCount : Verdict → ℕ
-alarmCount (Accepted count) = count
-alarmCount (Refused rule place) = 0
+-- and those that the rules give: of the first that is broken, or the alarm count
+abbrev pub checkNumbers : List ℤ → List ℤ → ℕ → Numbers
+checkNumbers t w room = numbersBy (stagesOf t w room) (length (alarmWords t w) / 2)

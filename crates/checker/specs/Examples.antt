@@ -17,7 +17,7 @@ use Rattle.interval.specs.declared.Computed.{Computed}
 use Rattle.interval.specs.declared.Operation.the-variants.{Product, Quotient}
 use Rattle.words.specs.Words.{numberOf}
 use Rattle.words.specs.First.{unless, orElse, firstBad, allBelow, someBelow}
-use Rattle.words.specs.Stages.{refuse, andThen}
+use Rattle.words.specs.Stages.{refuse, andThen, bufferBy}
 use Rattle.table.specs.Layout.{sharesOf, startsOf, pointsOf, nodesOf, fourBy, fourOf, firstIn, laterOf, lastIn, firstOf, taskOf}
 use Rattle.table.specs.Decode.{operationOf, comparisonOf, kept, shapeBy, shapeFrom, pointBy, pointFrom}
 use Rattle.table.specs.Tree.{arithBy, condBy, arithF, arithAt, condAt}
@@ -40,7 +40,7 @@ use Rattle.rules.specs.Rules.{files, filed, writes, rule14, takes, disturbs, un
 use Rattle.rules.specs.Alarms.{alarmsBy, alarmsIf, alarmsAt}
 use Rattle.rules.specs.Examine.{firstBadIn, layoutStage, wordsStage, startStage, outcomeStage, sharedStage, readyOf, examinedOf}
 use Rattle.checker.specs.AlarmList.{raised, pairIf, pairsAt, pairsOf, alarmWords}
-use Rattle.checker.specs.Check.{roomStage, stagesOf, verdictBy, checkOf, bufferBy, bufferOf}
+use Rattle.checker.specs.Check.{roomStage, stagesOf, verdictBy, checkOf, bufferOf}
 
 -- what the document tells of a check: its verdict, or its buffer afterwards; of a tree on a row: its interval and alarms, or the row that it
 -- leaves; and of a single operation

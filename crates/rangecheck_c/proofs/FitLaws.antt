@@ -1,7 +1,7 @@
 -- Every state that a run gives has small numbers: its points are points of the table, and its kinds are 0, 1 or 2.
 -- Assumes nothing.
 use Prim.Native.Nat.{ℕ, zero, suc, _<_, _≤_}
-use mathlib.Core.Path.{_≡_, refl}
+use mathlib.Core.Path.{_≡_, refl, sym, ap, _∙_}
 use mathlib.Core.Bool.{Bool, true, false, cond}
 use mathlib.Core.List.{List, [], _∷_, _++_}
 use native.Mathlib.Omega.{arith}
@@ -9,8 +9,7 @@ use borrow.Author.Tests.{ltb-true}
 use lib.Dec.{ltb}
 use lib.IntN.{ℤ}
 use lib.ListN.{length, getD, set, replicate}
-use Rattle.words.specs.declared.Stage.{Stage}
-use Rattle.words.specs.declared.Stage.the-variants.{Passed, Broken}
+use Rattle.words.specs.declared.Stage.the-variants.{Passed}
 use Rattle.words.specs.Words.{numberAt}
 use Rattle.words.specs.Tabulate.{tabulate}
 use Rattle.table.specs.declared.Point.{Point}
@@ -26,10 +25,11 @@ use Rattle.table.proofs.PassLaws.{passes}
 use Rattle.table.proofs.TaskLaws.{first-le}
 use Rattle.run.specs.declared.State.{State}
 use Rattle.run.specs.declared.Played.{Played}
-use Rattle.run.specs.State.{pointIn, ownerIn, isFree, ownsOf, firstsOf, startOf, blankOf}
+use Rattle.run.specs.State.{pointIn, ownerIn, isFree, ownsOf, firstsOf, startOf}
 use Rattle.run.specs.Step.{assignBy, testBy, lockBy, unlockBy, actOf, runsOf, turnBy, turnOf, stepBy, stepOf}
-use Rattle.run.specs.Run.{after, lastOf, playedBy, runOf}
+use Rattle.run.specs.Run.{after, lastOf, runOf}
 use Rattle.run.proofs.EndLaws.{Ends, Tells, result-ends, truth-tells}
+use Rattle.run.proofs.RunLaws.{run-stage, run-last}
 use Rattle.rangecheck_c.specs.Slots.{Fits}
 
 -- ---- a bound of all slots
@@ -143,18 +143,7 @@ module _ (t ws : List ℤ) (ok : Passes t) where
         kind-fits = λ u. omega (arith, i .kinds-small u);
       }
 
-blank-fits : Fits blankOf
-unfolding blankOf
-blank-fits = record {
-  point-fits = λ u. omega (arith, zeros-below {b = 3} 8 (omega arith) u);
-  kind-fits = λ u. omega (arith, zeros-below {b = 3} 8 (omega arith) u);
-}
-
-by-stage : (t ws : List ℤ) (r : Stage) → validateOf t ≡ r → Fits (playedBy r (lastOf t ws) .state)
-unfolding playedBy
-by-stage t ws Passed e = last-fits t ws (passes t e)
-by-stage t ws (Broken rule place) e = blank-fits
-
-pub run-fits : (t ws : List ℤ) {r : Played} → r ≡ runOf t ws → Fits (r .state)
-unfolding runOf
-run-fits t ws e = rw e (by-stage t ws (validateOf t) refl)
+pub run-fits : (t ws : List ℤ) {r : Played} → r ≡ runOf t ws → r .stage ≡ Passed → Fits (r .state)
+run-fits t ws e p =
+    let ok : validateOf t ≡ Passed = sym (run-stage t ws) ∙ sym (ap (λ (q : Played). q .stage) e) ∙ p in
+    rw (e, run-last t ws ok) (last-fits t ws (passes t ok))

@@ -1,15 +1,17 @@
 -- A state of a run as 48 words, and what a run leaves in its answer slice.
 -- Assumes nothing.
 use Prim.Native.Nat.{ℕ, _-_, _≤_}
-use mathlib.Core.Bool.{Bool, true, false, cond}
-use mathlib.Core.List.{List, _++_}
+use mathlib.Core.Bool.{cond}
+use mathlib.Core.List.{List}
 use lib.Dec.{ltb}
 use lib.IntN.{ℤ, pos}
-use lib.ListN.{length, drop, getD}
+use lib.ListN.{length, getD}
 use Rattle.words.specs.Words.{wordOf}
+use Rattle.words.specs.Stages.{bufferBy}
 use Rattle.words.specs.Tabulate.{tabulate}
 use Rattle.run.specs.declared.State.{State}
-use Rattle.run.specs.Run.{runOf}
+use Rattle.run.specs.Run.{lastOf}
+use Rattle.rangecheck_c.specs.Answer.{ranStage}
 
 -- word i of a state: 8 points, 16 values, 8 owners, 8 stop nodes, 8 stop kinds
 unfoldable pub slotOf : State → ℕ → ℤ
@@ -23,17 +25,9 @@ slotOf s i =
 unfoldable pub slotsOf : State → List ℤ
 slotsOf s = tabulate (slotOf s) 48
 
--- an answer slice that is too short stays as it came; in a longer one 'later words keep their contents'
-unfoldable pub laidBy : Bool → State → List ℤ → List ℤ
-laidBy true s d = d
-laidBy false s d = slotsOf s ++ drop 48 d
-
-unfoldable pub laidOf : State → List ℤ → List ℤ
-laidOf s d = laidBy (ltb (length d) 48) s d
-
--- a table's refusal has a state of zeros
+-- what a run leaves in its answer slice: on any refusal it is as it came, else the last state's words stand at its front
 unfoldable pub sliceOf : List ℤ → List ℤ → List ℤ → List ℤ
-sliceOf t ws d = laidOf (runOf t ws .state) d
+sliceOf t ws d = bufferBy (ranStage t (length d)) (slotsOf (lastOf t ws)) d
 
 -- a state's points and kinds are small, as those of every state that a run gives; the private functions that write one ask for it
 pub record Fits (s : State) : Type 0 where

@@ -5,10 +5,11 @@ use checker::check::check;
 use run::play::run;
 use words::Stage;
 ghost use mathlib.Core.Path.{_≡_};
-ghost use lib.Dec.{ltb};
 ghost use lib.ListN.{length};
-ghost use Rattle.checker.specs.Check.{checkOf, bufferOf};
-ghost use Rattle.rangecheck_c.specs.Answer.{answerOf, ranOf, roomBy};
+ghost use Rattle.words.specs.declared.Stage.the-variants.{Passed, Broken};
+ghost use Rattle.words.specs.Stages.{numbersBy, stageNumbers};
+ghost use Rattle.checker.specs.Check.{checkNumbers, bufferOf};
+ghost use Rattle.rangecheck_c.specs.Answer.{answerOf, ranStage};
 ghost use Rattle.rangecheck_c.specs.Slots.{sliceOf};
 
 mod slots;
@@ -21,6 +22,26 @@ pub struct RangecheckAnswer {
     pub count: u64,
 }
 
+fn accepted(count: usize) -> RangecheckAnswer
+    ensures { λ r. ⌜ r ≡ answerOf (numbersBy Passed count) ⌝ }
+{
+    RangecheckAnswer {
+        number: 0,
+        place: 0,
+        count: count as u64,
+    }
+}
+
+fn refused(rule: u32, place: usize) -> RangecheckAnswer
+    ensures { λ r. ⌜ r ≡ answerOf (stageNumbers (Broken rule place)) ⌝ }
+{
+    RangecheckAnswer {
+        number: rule,
+        place: place as u64,
+        count: 0,
+    }
+}
+
 // The check. The alarms stand in pairs at the buffer's front; a refusal leaves the buffer as it came.
 #[no_mangle]
 pub extern "C" fn rangecheck_check<'a, 'b>(
@@ -28,62 +49,34 @@ pub extern "C" fn rangecheck_check<'a, 'b>(
     proposal: &'a [i32],
     alarms: &'b mut [i32],
 ) -> RangecheckAnswer
-    ensures { λ r. ⌜ r ≡ answerOf (checkOf (now (table .entry)) (now (proposal .entry)) (length (now (alarms .entry)))) ⌝ }
+    ensures { λ r. ⌜ r ≡ answerOf (checkNumbers (now (table .entry)) (now (proposal .entry)) (length (now (alarms .entry)))) ⌝ }
     ensures { λ r. ⌜ now (alarms .exit) ≡ bufferOf (now (table .entry)) (now (proposal .entry)) (now (alarms .entry)) ⌝ }
 {
     match check(table, proposal, alarms) {
-        Verdict::Accepted(count) => RangecheckAnswer {
-            number: 0,
-            place: 0,
-            count: count as u64,
-        },
-        Verdict::Refused(rule, place) => RangecheckAnswer {
-            number: rule,
-            place: place as u64,
-            count: 0,
-        },
+        Verdict::Accepted(count) => accepted(count),
+        Verdict::Refused(rule, place) => refused(rule, place),
     }
 }
 
-// What a run of a table that passed answers, by the words of its answer slice.
-fn told(room: usize) -> RangecheckAnswer
-    ensures { λ r. ⌜ r ≡ roomBy (ltb room 48) ⌝ }
-{
-    if room < 48 {
-        return RangecheckAnswer {
-            number: 31,
-            place: 48,
-            count: 0,
-        };
-    }
-    RangecheckAnswer {
-        number: 0,
-        place: 0,
-        count: 0,
-    }
-}
-
-// The run. The last state stands in 48 words at the answer's front: 8 points, 16 values, 8 owners, 8 stop nodes, 8 stop kinds; zeros where the table
-// is refused. An answer slice shorter than that stays as it came; it is refused by 31 at 48, after the table's refusals.
+// The run. The last state stands in 48 words at the answer's front: 8 points, 16 values, 8 owners, 8 stop nodes, 8 stop kinds. A refusal leaves
+// the answer as it came: one of the table's, or 31 at 48 for a slice that is shorter.
 #[no_mangle]
 pub extern "C" fn rangecheck_run<'a, 'b>(
     table: &'a [i32],
     schedule: &'a [i32],
     answer: &'b mut [i64],
 ) -> RangecheckAnswer
-    ensures { λ r. ⌜ r ≡ ranOf (now (table .entry)) (now (schedule .entry)) (length (now (answer .entry))) ⌝ }
+    ensures { λ r. ⌜ r ≡ answerOf (stageNumbers (ranStage (now (table .entry)) (length (now (answer .entry))))) ⌝ }
     ensures { λ r. ⌜ now (answer .exit) ≡ sliceOf (now (table .entry)) (now (schedule .entry)) (now (answer .entry)) ⌝ }
 {
-    let room = answer.len();
     let played = run(table, schedule);
-    lay(played.state, answer);
     let stage = played.stage;
-    match stage {
-        Stage::Passed => told(room),
-        Stage::Broken(rule, place) => RangecheckAnswer {
-            number: rule,
-            place: place as u64,
-            count: 0,
-        },
+    if let Stage::Broken(rule, place) = stage {
+        return refused(rule, place);
     }
+    if answer.len() < 48 {
+        return refused(31, 48);
+    }
+    lay(played.state, answer);
+    accepted(0)
 }

@@ -3,11 +3,12 @@ use interval::integer::widen;
 use run::State;
 use words::word;
 ghost use mathlib.Core.Path.{_≡_};
+ghost use mathlib.Core.List.{_++_};
 ghost use Prim.Native.Nat.{_≤_};
 ghost use lib.IntN.{pos};
-ghost use lib.ListN.{getD};
+ghost use lib.ListN.{length, getD, drop};
 ghost use Rattle.words.specs.Words.{wordOf};
-ghost use Rattle.rangecheck_c.specs.Slots.{Fits, slotOf, laidOf};
+ghost use Rattle.rangecheck_c.specs.Slots.{Fits, slotOf, slotsOf};
 
 // The number, value or word at an index; 0 past the end. (A state's numbers are small, so that they fit.)
 fn number_slot(ns: &[usize], i: usize) -> i64
@@ -53,14 +54,11 @@ fn slot(s: State, i: usize) -> i64
     number_slot(&s.stop_kinds, i - 40)
 }
 
-// Writes the words of a state to the front of a slice; one that is too short stays as it came.
+// Writes the words of a state to the front of a slice that has room for them.
 pub(crate) fn lay(s: State, out: &mut [i64])
-    requires { ⌜ Fits s ⌝ }
-    ensures { λ r. ⌜ now (out .exit) ≡ laidOf s (now (out .entry)) ⌝ }
+    requires { ⌜ Fits s × (48 ≤ length (now out)) ⌝ }
+    ensures { λ r. ⌜ now (out .exit) ≡ slotsOf s ++ drop 48 (now (out .entry)) ⌝ }
 {
-    if out.len() < 48 {
-        return;
-    }
     let mut i = 0;
     while i < 48 {
         out[i] = slot(s, i);

@@ -17,6 +17,7 @@ use table::validate::validate;
 use words::Found;
 use words::Stage;
 ghost use mathlib.Core.Path.{_≡_};
+ghost use Rattle.words.specs.Stages.{stageNumbers};
 ghost use Rattle.table.specs.Layout.{sizesOf};
 ghost use Rattle.table.specs.Passes.{Passes};
 ghost use Rattle.analysis.specs.Alarms.{markedOf};
@@ -157,6 +158,7 @@ fn shared<'a>(t: &'a [i32], w: &'a [i32]) -> Stage
 // The first of refusals 1 to 16, or passed. Where 1 to 11 passed, the alarms of the reached points are marked.
 pub fn examine<'a, 'b>(t: &'a [i32], w: &'a [i32], marks: &'b mut [u8]) -> Stage
     ensures { λ r. ⌜ r ≡ examinedOf (now (t .entry)) (now (w .entry)) ⌝ }
+    ensures { λ r. ⌜ stageNumbers r ≡ stageNumbers (examinedOf (now (t .entry)) (now (w .entry))) ⌝ }
     ensures { λ r. ⌜ now (marks .exit) ≡ marksOf (now (t .entry)) (now (w .entry)) (now (marks .entry)) ⌝ }
 {
     let before = ready(t, w);

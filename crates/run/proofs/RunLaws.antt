@@ -1,5 +1,5 @@
 -- Laws of a run: each step uses a word at least, so that none is left after as many steps as there are words, and past the schedule's end the state
--- stands still. `Reached` is the invariant of the loop that plays a schedule.
+-- stands still. `Reached` is the invariant of the loop that plays a schedule. What `run` gives is the table's stage, and the last state where it passed. What `run` gives is the table's stage, and the last state where that passed.
 -- Assumes nothing.
 use Prim.Native.Nat.{ℕ, zero, suc, _+_, _≤_, _<_}
 use mathlib.Core.Path.{_≡_, refl, sym, ap, _∙_}
@@ -11,6 +11,8 @@ use borrow.Author.Tests.{ltb-true, ltb-false, lt-ltb, le-ltb}
 use lib.Dec.{ltb}
 use lib.IntN.{ℤ}
 use lib.ListN.{length}
+use Rattle.words.specs.declared.Stage.{Stage}
+use Rattle.words.specs.declared.Stage.the-variants.{Passed, Broken}
 use Rattle.words.specs.Words.{numberAt}
 use Rattle.table.specs.declared.Point.{Point}
 use Rattle.table.specs.declared.Point.the-variants.{End, Assign, Test, Lock, Unlock}
@@ -19,11 +21,12 @@ use Rattle.table.specs.declared.Evaluation.the-variants.{Value, Error}
 use Rattle.table.specs.declared.Verity.{Verity}
 use Rattle.table.specs.declared.Verity.the-variants.{Truth, Failure}
 use Rattle.table.specs.Layout.{nodesOf}
+use Rattle.table.specs.Validate.{validateOf}
 use Rattle.run.specs.declared.State.{State}
 use Rattle.run.specs.declared.Stepped.{Stepped}
 use Rattle.run.specs.State.{startOf}
 use Rattle.run.specs.Step.{stepped, assignBy, testBy, actOf, runsOf, turnBy, turnOf, stepBy, stepOf}
-use Rattle.run.specs.Run.{after, lastOf}
+use Rattle.run.specs.Run.{after, lastOf, playedBy, runOf}
 use Rattle.run.proofs.EndLaws.{Ends, Tells, result-ends, truth-tells}
 
 -- ---- what a task does ends no earlier than it started
@@ -109,3 +112,17 @@ module _ {t ws : List ℤ} where
       let end : length ws ≤ after t ws k .at = rw (c .is) h in
       let same = sym (still t ws k end (k + length ws) (omega arith)) ∙ finished t ws (k + length ws) (omega arith) in
       ap (λ (x : Stepped). x .state) (sym (c .is) ∙ same)
+
+-- ---- what a run gives
+played-stage : (r : Stage) (s : State) → playedBy r s .stage ≡ r
+unfolding playedBy
+played-stage Passed s = refl
+played-stage (Broken rule place) s = refl
+
+pub run-stage : (t ws : List ℤ) → runOf t ws .stage ≡ validateOf t
+unfolding runOf
+run-stage t ws = played-stage (validateOf t) (lastOf t ws)
+
+pub run-last : (t ws : List ℤ) → validateOf t ≡ Passed → runOf t ws .state ≡ lastOf t ws
+unfolding runOf playedBy
+run-last t ws e = rw e

@@ -4,6 +4,8 @@ use crate::State;
 use table::validate::validate;
 use words::Stage;
 ghost use mathlib.Core.Path.{_≡_};
+ghost use Rattle.words.specs.Stages.{stageNumbers};
+ghost use Rattle.table.specs.Validate.{tableNumbers};
 ghost use Rattle.run.specs.Run.{lastOf, runOf};
 
 // The state after the whole schedule: the first step gets the starting state, each later one what the step before gave back.
@@ -23,6 +25,7 @@ fn play<'a>(table: &'a [i32], schedule: &'a [i32]) -> State
 // Plays the whole schedule and gives the last state. A table that refusals 1 to 6 refuse gives its refusal, and a state of zeros.
 pub fn run<'a>(table: &'a [i32], schedule: &'a [i32]) -> Played
     ensures { λ r. ⌜ r ≡ runOf (now (table .entry)) (now (schedule .entry)) ⌝ }
+    ensures { λ r. ⌜ stageNumbers (r .stage) ≡ tableNumbers (now (table .entry)) ⌝ }
 {
     let stage = validate(table);
     match stage {

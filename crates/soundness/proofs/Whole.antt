@@ -12,6 +12,7 @@ use lib.ListN.{length, drop, getD-replicate}
 use lib.Seq.{take-append-seam}
 use Rattle.words.specs.declared.Stage.{Stage}
 use Rattle.words.specs.declared.Stage.the-variants.{Passed}
+use Rattle.words.specs.Stages.{bufferBy}
 use Rattle.words.specs.Words.{numberOf, numberAt}
 use Rattle.words.proofs.Bools.{and-left}
 use Rattle.words.proofs.FillLaws.{length-tabulate}
@@ -22,13 +23,14 @@ use Rattle.rules.specs.Held.{hasOf}
 use Rattle.rules.specs.Proposal.{heldWordOf, heldOf, rowAt}
 use Rattle.checker.specs.declared.Verdict.the-variants.{Accepted}
 use Rattle.checker.specs.AlarmList.{alarmWords}
-use Rattle.checker.specs.Check.{stagesOf, checkOf, bufferBy, bufferOf}
+use Rattle.checker.specs.Check.{stagesOf, checkOf, bufferOf}
 use Rattle.checker.specs.Laws.{Accepts}
 use Rattle.checker.proofs.AcceptLaws.{accepted-passed, accepts}
 use Rattle.run.specs.declared.State.{State}
 use Rattle.run.specs.State.{pointIn, ownerIn, isNumber, ownsOf, freeOf, firstsOf, valuesOf, startOf}
 use Rattle.run.specs.Step.{runsOf, turnBy, turnOf, stepBy, stepOf}
-use Rattle.run.specs.Run.{after, lastOf, playedBy, runOf}
+use Rattle.run.specs.Run.{after, lastOf, runOf}
+use Rattle.run.proofs.RunLaws.{run-stage, run-last}
 use Rattle.soundness.specs.Safe.{Reached, HoldsNamed, Safe}
 use Rattle.soundness.specs.Claim.{listOf, Claim}
 use Rattle.soundness.proofs.HeldLaws.{has-none}
@@ -104,11 +106,6 @@ module _ {t w : List ℤ} {room count : ℕ} (ok : Accepts t w room count) where
     keeps (suc n) = step-keeps _ _ (keeps n)
 
 -- ---- the theorem
--- a run that isn't refused gives the last state
-played-passed : (s : Stage) (x : State) → s ≡ Passed → (playedBy s x .state ≡ x) × (playedBy s x .stage ≡ Passed)
-unfolding playedBy
-played-passed s x e = rw e (refl, refl)
-
 module _ (t w buffer schedule : List ℤ) (count : ℕ) (e : checkOf t w (length buffer) ≡ Accepted count) where
   ok : Accepts t w (length buffer) count
   ok = accepts t w (length buffer) count e
@@ -125,17 +122,17 @@ module _ (t w buffer schedule : List ℤ) (count : ℕ) (e : checkOf t w (length
       subst (λ (l : List ℤ). Safe t w l (after t schedule n .state)) (sym list-is)
       (inv-safe (keeps ok schedule n))
 
-  run-is : (runOf t schedule .state ≡ after t schedule (length schedule) .state) × (runOf t schedule .stage ≡ Passed)
-  unfolding lastOf runOf
-  run-is = played-passed (validateOf t) (lastOf t schedule) (ok .table)
+  run-is : runOf t schedule .state ≡ after t schedule (length schedule) .state
+  unfolding lastOf
+  run-is = run-last t schedule (ok .table)
 
   safe-end : Safe t w (listOf t w buffer count) (runOf t schedule .state)
-  safe-end = subst (λ (s : State). Safe t w (listOf t w buffer count) s) (sym (run-is .0)) (safe-each (length schedule))
+  safe-end = subst (λ (s : State). Safe t w (listOf t w buffer count) s) (sym run-is) (safe-each (length schedule))
 
 pub whole : Claim
 whole =
     record {
       each = safe-each;
       end = safe-end;
-      plays = λ t w buffer schedule count e. run-is t w buffer schedule count e .1;
+      plays = λ t w buffer schedule count e. run-stage t schedule ∙ ok t w buffer schedule count e .table;
     }

@@ -11,7 +11,7 @@ use Rattle.words.specs.declared.Stage.{Stage}
 use Rattle.words.specs.declared.Stage.the-variants.{Passed}
 use Rattle.words.specs.Words.{wordOf, numberAt, inside}
 use Rattle.words.specs.First.{unless, firstBad}
-use Rattle.words.specs.Stages.{refuse}
+use Rattle.words.specs.Stages.{refuse, Numbers, stageNumbers}
 use Rattle.table.specs.declared.Limits.{Limits}
 use Rattle.table.specs.Layout.{sizesOf, lengthOf, sharesOf, pointsOf, nodesOf, firstOf}
 use Rattle.table.specs.Formed.{nodeOkOf, pointOkOf}
@@ -60,3 +60,7 @@ partsStage t =
 
 abbrev pub validateOf : List ℤ → Stage
 validateOf t = sizesStage t (partsStage t)
+
+-- document 01's number and place of that refusal
+abbrev pub tableNumbers : List ℤ → Numbers
+tableNumbers t = stageNumbers (validateOf t)

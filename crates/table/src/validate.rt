@@ -16,9 +16,10 @@ use words::word;
 ghost use mathlib.Core.Path.{_≡_};
 ghost use Prim.Native.Nat.{_<_, _≤_};
 ghost use Rattle.words.specs.First.{firstBad};
+ghost use Rattle.words.specs.Stages.{stageNumbers};
 ghost use Rattle.table.specs.Layout.{sizesOf};
 ghost use Rattle.table.specs.Formed.{nodeOkOf, pointOkOf};
-ghost use Rattle.table.specs.Validate.{sizeOkOf, shareOkOf, partsStage, validateOf};
+ghost use Rattle.table.specs.Validate.{sizeOkOf, shareOkOf, partsStage, validateOf, tableNumbers};
 
 const LOWEST: [usize; 5] = [1, 1, 0, 1, 0];
 
@@ -133,6 +134,7 @@ fn parts(t: &[i32]) -> Stage
 // The first of refusals 1 to 6, or passed.
 pub fn validate(t: &[i32]) -> Stage
     ensures { λ r. ⌜ r ≡ validateOf (now (t .entry)) ⌝ }
+    ensures { λ r. ⌜ stageNumbers r ≡ tableNumbers (now (t .entry)) ⌝ }
 {
     let n = t.len();
     if n < 5 {

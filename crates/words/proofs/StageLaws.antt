@@ -7,9 +7,11 @@
 --     refuse-found, refuse-later     of `refuse`: its search found nothing; the later rules passed
 --     test-passed                    of `refuse` at one test: the test held
 --     andThen-first, andThen-later   of `andThen`
+-- Where a function gives a stage:
+--     numbered          it is the stage, and has that stage's numbers
 -- Assumes nothing.
 use Prim.Native.Nat.{ℕ}
-use mathlib.Core.Path.{_≡_, refl, sym, _∙_}
+use mathlib.Core.Path.{_≡_, refl, sym, ap, _∙_}
 use mathlib.Core.Bool.{Bool, true, false}
 use native.Mathlib.Omega.{arith}
 use Rattle.words.specs.declared.Found.{Found}
@@ -17,7 +19,7 @@ use Rattle.words.specs.declared.Found.the-variants.{Nothing, At}
 use Rattle.words.specs.declared.Stage.{Stage}
 use Rattle.words.specs.declared.Stage.the-variants.{Passed, Broken}
 use Rattle.words.specs.First.{unless}
-use Rattle.words.specs.Stages.{refuse, andThen}
+use Rattle.words.specs.Stages.{refuse, andThen, stageNumbers}
 
 pub pass : (rule : ℕ) {s : Found} {later v : Stage} → s ≡ Nothing → v ≡ later → v ≡ refuse rule s later
 unfolding refuse
@@ -69,3 +71,6 @@ pub andThen-later : (s later : Stage) → andThen s later ≡ Passed → later �
 unfolding andThen
 andThen-later Passed later e = e
 andThen-later (Broken rule p) later e = let z : _≡_ {A = ℕ} 0 1 = cc in absurd (omega arith)
+
+pub numbered : {r s : Stage} → r ≡ s → (r ≡ s) × (stageNumbers r ≡ stageNumbers s)
+numbered e = (e, ap stageNumbers e)

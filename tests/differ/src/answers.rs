@@ -47,21 +47,18 @@ impl Answer<i64> {
     }
 
     /// The peer knows nothing of answer slices, so what the header promises of
-    /// them is written out here: the table's refusal is told first and gives
-    /// zeros, and a short slice is never written.
+    /// them is written out here: the table's refusal is told first, then that of
+    /// a short slice, and neither changes a word.
     pub fn run_by_peer(played: &Result<State, PeerRefusal>, room: usize) -> Answer<i64> {
         let mut words = state_words(room);
-        let state = match played {
-            Ok(state) => state.words(),
-            Err(_) => vec![0; STATE_WORDS],
-        };
-        if room >= STATE_WORDS {
-            lent(&mut words).iter_mut().zip(state).for_each(|(to, word)| *to = word.into());
-        }
-        let said = match *played {
-            Err(refused) => Err(refusal(refused)),
+        let said = match played {
+            Err(refused) => Err(refusal(*refused)),
             Ok(_) if room < STATE_WORDS => Err(refusal((31, STATE_WORDS))),
-            Ok(_) => Ok(0),
+            Ok(state) => {
+                let slots = lent(&mut words).iter_mut().zip(state.words());
+                slots.for_each(|(to, word)| *to = word.into());
+                Ok(0)
+            }
         };
         Answer { said, words }
     }

@@ -37,7 +37,7 @@ returns c =
     let at-n = c .before .before .before .before .before .before in
     let check = at-n .before .before .before .check .ensures in
     let put = c .before .before .put-accepted .ensures in
-    (text-accepted (sym (check .0) ∙ at-n .n .given .1) (check .1) (put .0), put .1)
+    (text-accepted (sym (check .0) ∙ at-n .n .given .1) (check .1 .1) (put .0), put .1)
 
 returns-2 : tie.Need-returns-2
 returns-2 c =

@@ -1,34 +1,44 @@
--- `rangecheck_c::rangecheck_run` meets its contract: the table's refusal, or what the slice has room for. Assumes nothing.
+-- `rangecheck_c::rangecheck_run` meets its contract: the table's refusal, that of a short slice, or the last state's words. Assumes nothing.
 use borrow.Author.Needs.{needs}
 use Rattle.rangecheck_c.proofs.FitLaws.{run-fits}
-use Rattle.rangecheck_c.proofs.AnswerLaws.{passed, broken, laid}
+use Rattle.rangecheck_c.proofs.AnswerLaws.{broken, short, laid}
 use Rattle.rangecheck_c.proofs.rangecheck_run.Statement.{statement}
 use Rattle.rangecheck_c.proofs.rangecheck_run.Tie as tie
 
-played : tie.Need-returns
-played c =
-    let matched = c .before in
-    let put = matched .before .before .before in
-    let is = put .before .before .run .ensures in
-    (passed _ _ is _ (matched .enum-told .given .1) (c .told .ensures), laid _ _ is _ (put .lay .ensures))
+table-refused : tie.Need-returns
+table-refused c =
+    let told = c .before .before in
+    broken _ _ _ (told .before .before .run .ensures .0) (told .stage .given .1) (c .refused .ensures)
 
-refused : tie.Need-returns-2
-refused c =
-    let matched = c .before in
-    let put = matched .before .before .before in
-    let is = put .before .before .run .ensures in
-    (broken _ _ is _ (matched .stage .given .1), laid _ _ is _ (put .lay .ensures))
+too-short : tie.Need-returns-2
+too-short c =
+    let passed = c .before .before in
+    short _ _ _ (passed .before .before .run .ensures .0) (passed .enum-told .given .1) (c .before .if1 .taken) (c .refused2 .ensures)
+
+lay-requires : tie.Need-lay-requires
+lay-requires c κs =
+    let passed = c .before .before in
+    (run-fits _ _ (passed .before .before .run .ensures .0) (passed .enum-told .given .1), c .before .if1 .left)
+
+all-laid : tie.Need-returns-3
+all-laid c =
+    let put = c .before .before in
+    let room = put .before .before in
+    let passed = room .before in
+    laid _ _ _ (passed .before .before .run .ensures .0) (passed .enum-told .given .1) (room .if1 .left) (c .accepted .ensures) (put .lay .ensures)
 
 pub rangecheck-run-spec : {M : Type 1} → statement M
 rangecheck-run-spec =
     tie.close
     (tie.spec
     (λ c κs. search needs)
-    (λ c κs. run-fits _ _ (c .before .run .ensures))
     (λ c. search needs)
     (λ c κs. search needs)
+    table-refused
     (λ c. search needs)
+    (λ c κs. search needs)
+    too-short
+    lay-requires
+    (λ c κs. search needs)
     (λ c. search needs)
-    played
-    (λ c. search needs)
-    refused)
+    all-laid)

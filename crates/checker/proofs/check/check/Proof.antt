@@ -33,7 +33,7 @@ listed : (c : tie.After-number-at) → let s = start (c .before) .args in
     pairsOf (markedAt (examined (c .before) .examine .last .1 .1 .0)) (c .number-at .result) ≡ alarmWords (now (s .table)) (now (s .proposal))
 listed c =
     let told = passed (c .before) in
-    marked-words _ _ told 2048 (omega (arith, nodes-within _ _ told)) (c .number-at .ensures .0) (examined (c .before) .examine .ensures .1)
+    marked-words _ _ told 2048 (omega (arith, nodes-within _ _ told)) (c .number-at .ensures .0) (examined (c .before) .examine .ensures .1 .1)
 
 -- how many words they take
 counted : (c : tie.After-needed) → let s = start (c .before .before .before) .args in

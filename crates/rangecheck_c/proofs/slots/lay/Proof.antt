@@ -2,10 +2,9 @@
 use Prim.Native.Nat.{_-_}
 use native.Mathlib.Omega.{arith}
 use borrow.Author.Needs.{needs}
-use borrow.Author.Tests.{lt-ltb, le-ltb}
 use Rattle.interval.proofs.MachineArithmetic.{handed64}
 use Rattle.words.proofs.FillLaws.{Filled, fill, fills, filled, kept}
-use Rattle.rangecheck_c.specs.Slots.{slotOf, slotsOf, laidBy, laidOf}
+use Rattle.rangecheck_c.specs.Slots.{slotOf, slotsOf}
 use Rattle.rangecheck_c.proofs.slots.lay.Statement.{statement}
 use Rattle.rangecheck_c.proofs.slots.lay.Tie as tie
 
@@ -27,15 +26,9 @@ loop-again c =
     let turn = c .before in
     fills (turn .before .loop .inv) (turn .loop-test .taken) (handed64 (c .slot .ensures) (c .slot .ok))
 
-all-laid : tie.Need-returns-2 Inv-loop μ-loop
-unfolding laidOf laidBy slotsOf
-all-laid c =
-    let at = c .before in
-    rw (le-ltb _ _ (at .before .if1 .left)) (filled (at .loop .inv) (c .loop-test .left))
-
-too-short : tie.Need-returns Inv-loop μ-loop
-unfolding laidOf laidBy
-too-short c = rw (lt-ltb _ _ (c .if1 .taken))
+all-laid : tie.Need-returns Inv-loop μ-loop
+unfolding slotsOf
+all-laid c = filled (c .before .loop .inv) (c .loop-test .left)
 
 pub lay-spec : {M : Type 1} → statement M
 lay-spec =
@@ -43,9 +36,8 @@ lay-spec =
     (tie.spec
     Inv-loop
     μ-loop
-    too-short
-    (λ c. fill (c .if1 .left))
-    (λ c κs. c .before .before .before .pre)
+    (λ c. fill (c .pre .1))
+    (λ c κs. c .before .before .pre .0)
     (λ c. search needs)
     inside
     (λ c. search needs)

@@ -1,9 +1,10 @@
 -- `rules::examine::examine` meets its contract: each `return` is the stages that passed, and the one that is broken. What 1 to 11 passed give is what
 -- the walk over the points counts on, and the marks are made in that walk. Assumes nothing.
-use mathlib.Core.Path.{_≡_, sym, _∙_}
+use mathlib.Core.Path.{_≡_, sym, ap, _∙_}
 use borrow.Author.Needs.{needs}
 use denote.Ref.{now}
 use Rattle.words.specs.declared.Stage.the-variants.{Passed}
+use Rattle.words.specs.Stages.{stageNumbers}
 use Rattle.words.proofs.StageLaws.{go, stop}
 use Rattle.rules.specs.Examine.{readyOf, examinedOf}
 use Rattle.rules.proofs.ReadyLaws.{ready, marks-kept, marks-made}
@@ -22,23 +23,24 @@ examine-spec =
     (λ c. search needs)
     (λ c.
     let done = c .before .before .ready .ensures in
-    (stop _ (c .enum-told .given .1) done, marks-kept _ _ _ done (c .enum-told .given .1)))
+    let is = stop _ (c .enum-told .given .1) done in
+    (is, (ap stageNumbers is, marks-kept _ _ _ done (c .enum-told .given .1))))
     (λ c. search needs)
     (λ c κs. ready _ _ (passed (c .before)))
     (λ c. search needs)
     (λ c. search needs)
     (λ c.
     let flowing = c .before .before .before .before in
-    let before = flowing .before .before in (
-      go (passed before) (stop _ (c .enum-told3 .given .1) (flowing .outcomes .ensures .0)),
-      marks-made _ _ _ (before .before .before .ready .ensures) (before .enum-told2 .given .1) (flowing .outcomes .ensures .1),
-    ))
+    let before = flowing .before .before in
+    let is = go (passed before) (stop _ (c .enum-told3 .given .1) (flowing .outcomes .ensures .0)) in
+    let marked = marks-made _ _ _ (before .before .before .ready .ensures) (before .enum-told2 .given .1) (flowing .outcomes .ensures .1) in
+    (is, (ap stageNumbers is, marked)))
     (λ c. search needs)
     (λ c κs. ready _ _ (passed (c .before .before .before .before .before .before)))
     (λ c. search needs)
     (λ c.
     let flowing = c .before .before .before .before .before in
-    let before = flowing .before .before in (
-      go (passed before) (go (sym (flowing .outcomes .ensures .0) ∙ c .before .enum-told4 .given .1) (c .shared .ensures)),
-      marks-made _ _ _ (before .before .before .ready .ensures) (before .enum-told2 .given .1) (flowing .outcomes .ensures .1),
-    )))
+    let before = flowing .before .before in
+    let is = go (passed before) (go (sym (flowing .outcomes .ensures .0) ∙ c .before .enum-told4 .given .1) (c .shared .ensures)) in
+    let marked = marks-made _ _ _ (before .before .before .ready .ensures) (before .enum-told2 .given .1) (flowing .outcomes .ensures .1) in
+    (is, (ap stageNumbers is, marked))))

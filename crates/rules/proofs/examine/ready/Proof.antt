@@ -25,7 +25,7 @@ proposal c = now (c .args .w)
 
 -- the stages that were passed, and what they give
 validated : (c : tie.After-enum-told2) → validateOf (table (c .before .before .before)) ≡ Passed
-validated c = sym (c .before .before .validate .ensures) ∙ c .enum-told2 .given .1
+validated c = sym (c .before .before .validate .ensures .0) ∙ c .enum-told2 .given .1
 
 sized : (c : tie.After-enum-told4) → let s = c .before .before .before .before .before .before in layoutStage (table s) (proposal s) ≡ Passed
 sized c = sym (c .before .before .layout .ensures) ∙ c .enum-told4 .given .1
@@ -48,7 +48,7 @@ ready-spec =
     (tie.spec
     (λ c κs. search needs)
     (λ c. search needs)
-    (λ c. stop _ (c .enum-told .given .1) (c .before .before .validate .ensures))
+    (λ c. stop _ (c .enum-told .given .1) (c .before .before .validate .ensures .0))
     (λ c. search needs)
     (λ c κs. passed c)
     (λ c. search needs)

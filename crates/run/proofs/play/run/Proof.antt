@@ -1,11 +1,24 @@
--- `run::play::run` meets its contract: what `validate` says decides the definition. Assumes nothing.
+-- `run::play::run` meets its contract: what `validate` says decides the definition, and its numbers are handed on. Assumes nothing.
 use borrow.Author.Needs.{needs}
 use Rattle.run.specs.Run.{playedBy, runOf}
 use Rattle.run.proofs.play.run.Statement.{statement}
 use Rattle.run.proofs.play.run.Tie as tie
 
-pub run-spec : {M : Type 1} → statement M
+played : tie.Need-returns
 unfolding runOf playedBy
+played c =
+    let told = c .before in
+    let said = told .before .before .validate .ensures in
+    (rw (← said .0, told .enum-told .given .1, c .play .ensures), said .1)
+
+refused : tie.Need-returns-2
+unfolding runOf playedBy
+refused c =
+    let told = c .before in
+    let said = told .before .before .validate .ensures in
+    (rw (← said .0, told .enum-told2 .given .1, c .blank .ensures), said .1)
+
+pub run-spec : {M : Type 1} → statement M
 run-spec =
     tie.close
     (tie.spec
@@ -14,5 +27,5 @@ run-spec =
     (λ c κs. search needs)
     (λ c. search needs)
     (λ c κs. search needs)
-    (λ c. let told = c .before in rw (← told .before .before .validate .ensures, told .enum-told .given .1, c .play .ensures))
-    (λ c. let told = c .before in rw (← told .before .before .validate .ensures, told .enum-told2 .given .1, c .blank .ensures)))
+    played
+    refused)

@@ -13,7 +13,7 @@ use Rattle.words.specs.declared.Found.the-variants.{Nothing}
 use Rattle.words.specs.First.{firstBad}
 use Rattle.words.proofs.Bools.{and-right}
 use Rattle.words.proofs.FirstLaws.{firstBad-none}
-use Rattle.words.proofs.StageLaws.{pass, halt, pass-if, halt-if}
+use Rattle.words.proofs.StageLaws.{pass, halt, pass-if, halt-if, numbered}
 use Rattle.table.specs.Layout.{sizesOf}
 use Rattle.table.specs.Validate.{sizeOkOf, sizesStage}
 use Rattle.table.proofs.validate.validate.Statement.{statement}
@@ -37,28 +37,28 @@ few-nodes c =
 
 short : tie.Need-returns
 unfolding sizesStage
-short c = halt-if _ (lt-leb _ _ (c .if1 .taken)) refl
+short c = numbered (halt-if _ (lt-leb _ _ (c .if1 .taken)) refl)
 
 size-broken : tie.Need-returns-2
 unfolding sizesStage
 size-broken c =
     let sizes = c .before .before .before in
-    pass-if _ _ (long (sizes .before)) (halt _ (sym (sizes .first-size .ensures) ∙ c .before .k .given .1))
+    numbered (pass-if _ _ (long (sizes .before)) (halt _ (sym (sizes .first-size .ensures) ∙ c .before .k .given .1)))
 
 length-broken : tie.Need-returns-3
 unfolding sizesStage
 length-broken c =
     let sizes = c .before .before in
-    pass-if _ _ (long (sizes .before .before .before)) (pass _ (sized sizes)
-    (halt-if _ (ne-eqb _ _ (λ e. c .if2 .taken (e ∙ sym (c .before .length-for .ensures)))) refl))
+    numbered (pass-if _ _ (long (sizes .before .before .before)) (pass _ (sized sizes)
+    (halt-if _ (ne-eqb _ _ (λ e. c .if2 .taken (e ∙ sym (c .before .length-for .ensures)))) refl)))
 
 passed : tie.Need-returns-4
 unfolding sizesStage
 passed c =
     let whole = c .before in
     let sizes = whole .before .before in
-    pass-if _ _ (long (sizes .before .before .before)) (pass _ (sized sizes)
-    (pass-if _ _ (eq-eqb _ _ (whole .if2 .left ∙ whole .before .length-for .ensures)) (c .parts .ensures)))
+    numbered (pass-if _ _ (long (sizes .before .before .before)) (pass _ (sized sizes)
+    (pass-if _ _ (eq-eqb _ _ (whole .if2 .left ∙ whole .before .length-for .ensures)) (c .parts .ensures))))
 
 pub validate-spec : {M : Type 1} → statement M
 validate-spec =
