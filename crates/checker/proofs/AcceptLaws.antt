@@ -1,4 +1,5 @@
--- What a verdict tells of the stages: acceptance gives every rule, and a 17 the words that are needed.
+-- What a verdict tells of the stages: acceptance gives every rule and leaves the list at the buffer's front, and a 17 gives the words that are
+-- needed.
 -- Assumes nothing.
 use Prim.Native.Nat.{ℕ, _*_, _/_, _<_, _≤_, zero-le}
 use mathlib.Core.Path.{_≡_, refl, sym, ap, subst, _∙_}
@@ -9,13 +10,14 @@ use native.Mathlib.Decide.{decLt}
 use borrow.Author.Tests.{leb-true, leb-false, eqb-true, eq-eqb, le-ltb}
 use lib.Dec.{eqb, leb, ltb}
 use lib.IntN.{ℤ}
-use lib.ListN.{length}
+use lib.ListN.{length, take, drop}
+use lib.Seq.{take-append-seam}
 use Rattle.words.specs.declared.Found.{Found}
 use Rattle.words.specs.declared.Found.the-variants.{Nothing, At}
 use Rattle.words.specs.declared.Stage.{Stage}
 use Rattle.words.specs.declared.Stage.the-variants.{Passed, Broken}
 use Rattle.words.specs.First.{unless}
-use Rattle.words.specs.Stages.{refuse, andThen}
+use Rattle.words.specs.Stages.{refuse, andThen, bufferBy}
 use Rattle.words.proofs.Bools.{clash}
 use Rattle.words.proofs.FirstLaws.{firstBad-none}
 use Rattle.words.proofs.StageLaws.{refuse-found, refuse-later, test-passed, andThen-first, andThen-later}
@@ -27,7 +29,7 @@ use Rattle.rules.specs.Rules.{rule8, rule9, rule10, rule11, rule12, rule13, rul
 use Rattle.checker.specs.AlarmList.{raised, alarmWords}
 use Rattle.rules.specs.declared.Scope.{Scope}
 use Rattle.rules.specs.Examine.{places, wholeOf, firstBadIn, layoutStage, wordsStage, startStage, outcomeStage, sharedStage, readyOf, examinedOf}
-use Rattle.checker.specs.Check.{roomStage, stagesOf, verdictBy, checkOf}
+use Rattle.checker.specs.Check.{roomStage, stagesOf, verdictBy, checkOf, bufferOf}
 use Rattle.checker.specs.Laws.{Accepts}
 use Rattle.checker.proofs.ListLaws.{pairs-even}
 
@@ -36,7 +38,7 @@ unfolding alarmWords
 words-even t w = pairs-even (raised t w) (sizesOf t .nodes)
 
 -- ---- acceptance
-pub accepted-passed : (s : Stage) (n count : ℕ) → verdictBy s n ≡ Accepted count → (s ≡ Passed) × (n ≡ count)
+accepted-passed : (s : Stage) (n count : ℕ) → verdictBy s n ≡ Accepted count → (s ≡ Passed) × (n ≡ count)
 unfolding verdictBy
 accepted-passed Passed n count e = (refl, cc)
 accepted-passed (Broken rule p) n count e = let z : _≡_ {A = ℕ} 0 1 = cc in absurd (omega arith)
@@ -99,6 +101,13 @@ accepts t w room count e =
       fits = omega arith;
       listed = is;
     }
+
+-- the words that acceptance leaves at the buffer's front, as many as the count says, are those of the list
+pub accepted-buffer : (t w buffer : List ℤ) (count : ℕ) → checkOf t w (length buffer) ≡ Accepted count → take (2 * count) (bufferOf t w buffer) ≡ alarmWords t w
+unfolding checkOf bufferBy bufferOf
+accepted-buffer t w buffer count e =
+    let passed = accepted-passed (stagesOf t w (length buffer)) (length (alarmWords t w) / 2) count e .0 in
+    rw (passed, ← accepts t w (length buffer) count e .listed) (take-append-seam (alarmWords t w) (drop (length (alarmWords t w)) buffer))
 
 -- ---- a refusal of another number comes from the later rules
 refused-broken : (s : Stage) (n rule p : ℕ) → verdictBy s n ≡ Refused rule p → s ≡ Broken rule p

@@ -3,13 +3,13 @@
 use Prim.Native.Nat.{ℕ, zero, suc, zero-le, _+_, _-_, _*_, _/_, _%_, _^_, _<_, _≤_}
 use mathlib.Core.Path.{_≡_, refl, sym, ap, subst, _∙_}
 use mathlib.Core.Bool.{Bool, true, false}
-use mathlib.Core.List.{List, _++_, append-assoc}
-use native.Mathlib.Nat.{not-suc-le-zero, le-of-suc-le-suc, pow-suc, pow-le-pow-right}
+use mathlib.Core.List.{List, [], _++_, append-assoc, append-nil}
+use native.Mathlib.Nat.{not-suc-le-zero, le-of-eq, le-of-suc-le-suc, pow-suc, pow-le-pow-right}
 use native.Mathlib.Omega.{arith}
 use borrow.Author.Tests.{lt-ltb, le-ltb, leb-true, leb-false}
 use lib.Dec.{leb}
-use lib.ListN.{length, take, length-append}
-use lib.Seq.{length-take-le, take-length, take-at}
+use lib.ListN.{length, take, drop, length-append, length-drop, take-append-drop, drop-of-length-le}
+use lib.Seq.{length-take-le, take-all, take-length, take-at, drop-at, drop-drop}
 use Rattle.io.specs.Counts.{Counts}
 use Rattle.io.specs.Digits.{glyph, digits, Fewest}
 use Rattle.rangecheck.specs.Text.{lastOr, digitsIn, Put}
@@ -52,20 +52,70 @@ pub fewest-few : (k n : ℕ) → Fewest 10 1 n k → n < 18446744073709551616 �
 fewest-few k n = few-by k n (leb k 20) refl
 
 -- ---- texts
--- one text, and then the next
-pub then : {t₀ t₁ t₂ a b : List ℕ} → Put t₀ a t₁ → Put t₁ b t₂ → Put t₀ (a ++ b) t₂
-then {t₀} {t₁} {t₂} {a} {b} p q = record { is = q .is ∙ ap (λ (x : List ℕ). x ++ b) (p .is) ∙ append-assoc t₀ a b }
+module _ {t u a : List ℕ} {at n : ℕ} (p : Put t at a u n) where
+  -- what was there up to the index, and what was put behind it
+  front-length : length (take at t ++ a) ≡ n
+  front-length =
+      let below : at ≤ length t = omega (arith, p .room, p .next-is) in
+      length-append (take at t) a ∙ ap (λ (k : ℕ). k + length a) (length-take-le at t below) ∙ sym (p .next-is)
 
--- bytes that were copied to the middle of a list stand behind what was before them
-pub copied : (n at : ℕ) (t s e : List ℕ) {m : List ℕ} → n ≡ length s → at ≤ length t → m ≡ take (length s) s ++ e → (p : List ℕ)
-    → take (at + n) (take at t ++ (m ++ p)) ≡ take at t ++ s
-copied n at t s e {m} l h q p =
-    let front : length (take at t) ≡ at = length-take-le at t h in
-    let is : m ≡ s ++ e = q ∙ ap (λ (x : List ℕ). x ++ e) (take-length s) in
-    let whole : length (take at t ++ s) ≡ at + n = length-append (take at t) s ∙ rw (front, ← l) in
-    let regrouped : take at t ++ ((s ++ e) ++ p) ≡ (take at t ++ s) ++ (e ++ p) = simp append-assoc in
-    rw (is, regrouped) (take-at (take at t ++ s) (e ++ p) (at + n) whole)
+  regrouped : u ≡ (take at t ++ a) ++ drop n t
+  regrouped = p .is ∙ sym (append-assoc (take at t) a (drop n t))
+
+  put-front : take n u ≡ take at t ++ a
+  put-front = rw regrouped (take-at (take at t ++ a) (drop n t) n front-length)
+
+  put-behind : drop n u ≡ drop n t
+  put-behind = rw regrouped (drop-at (take at t ++ a) (drop n t) n front-length)
+
+  -- the text is as long as before
+  pub put-length : length u ≡ length t
+  put-length =
+      let rest = length-drop n t in
+      rw regrouped (length-append (take at t ++ a) (drop n t) ∙ rw (front-length, rest) (omega (arith, p .room)))
+
+-- one text, and then the next
+pub then : {t u v a b : List ℕ} {at m n : ℕ} → Put t at a u m → Put u m b v n → Put t at (a ++ b) v n
+then {t} {u} {v} {a} {b} {at} {m} {n} p q =
+    let more = length-append a b in
+    let behind : drop n u ≡ drop n t =
+    rw (q .next-is) (sym (drop-drop (length b) m u) ∙ ap (λ (x : List ℕ). drop (length b) x) (put-behind p) ∙ drop-drop (length b) m t) in
+    record {
+      is = q .is ∙ rw (put-front p, behind) (simp append-assoc);
+      next-is = omega (arith, p .next-is, q .next-is);
+      room = omega (arith, put-length p, q .room);
+    }
 
 -- an index within a text counts the bytes before it
-pub counted : {r : ℕ} (x : List ℕ) → r ≤ length x → Counts r x
-counted {r} x h = (h, sym (length-take-le r x h))
+pub counted : (r : ℕ) (x : List ℕ) → r ≤ length x → Counts r x
+counted r x h = (h, sym (length-take-le r x h))
+
+-- a text that was put at the front
+pub put-whole : {t u a : List ℕ} {n : ℕ} → Put t 0 a u n → (n ≡ length a) × ((u ≡ a ++ drop n t) × Counts n u)
+put-whole {t} {u} {a} {n} p = (omega (arith, p .next-is), (p .is, counted n u (omega (arith, p .room, put-length p))))
+
+-- nothing is put
+pub none : (t : List ℕ) (at : ℕ) → at ≤ length t → Put t at [] t at
+none t at h = record { is = sym (take-append-drop at t); next-is = omega arith; room = h }
+
+-- another name of what was put
+pub named : {t u a b : List ℕ} {at n : ℕ} → a ≡ b → Put t at a u n → Put t at b u n
+named {t} {u} {a} {b} {at} {n} e p = subst (λ (x : List ℕ). Put t at x u n) e p
+
+-- bytes s that were copied to a text from an index on, as `bytes::copy(s, &mut t[at..])` leaves it
+module _ (at : ℕ) (t s : List ℕ) (fits : at + length s ≤ length t) where
+  to-end : take (length t - at) (drop at t) ≡ drop at t
+  to-end = take-all (length t - at) (drop at t) (le-of-eq (length-drop at t))
+
+  past-end : drop (length t - at) (drop at t) ≡ []
+  past-end = drop-of-length-le (drop at t) (le-of-eq (length-drop at t))
+
+  pub copied : {n : ℕ} {m : List ℕ} → n ≡ length s → m ≡ take (length s) s ++ drop (length s) (take (length t - at) (drop at t))
+      → Put t at s (take at t ++ (m ++ drop (length t - at) (drop at t))) (at + n)
+  copied {n} {m} l q =
+      let rest : drop (length s) (drop at t) ≡ drop (at + n) t = drop-drop (length s) at t ∙ ap (λ (k : ℕ). drop (at + k) t) (sym l) in
+      record {
+        is = rw (q, past-end, to-end, take-length s, rest, append-nil (s ++ drop (at + n) t));
+        next-is = ap (λ (k : ℕ). at + k) l;
+        room = omega arith;
+      }

@@ -1,2 +1,5 @@
 pub mod Text
 pub mod Print
+pub mod Program
+pub mod Laws
+pub mod Examples

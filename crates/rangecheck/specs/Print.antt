@@ -1,16 +1,16 @@
--- What the program prints: a line for the verdict, and one for each alarm (document 01, 'The run', the printing program). Each list of bytes is
--- ASCII, and the text stands beside it.
+-- What the program prints of a table and a proposal: a line for the verdict, and one for each alarm (document 01, 'The run', the printing
+-- program). Each list of bytes is ASCII, and the text stands beside it.
 -- Assumes nothing.
 use Prim.Native.Nat.{ℕ, zero, suc, _+_, _*_}
 use mathlib.Core.Bool.{Bool, true, false}
 use mathlib.Core.List.{List, [], _∷_, _++_}
 use lib.IntN.{ℤ}
 use lib.Dec.{eqb}
-use lib.ListN.{length}
 use Rattle.words.specs.Words.{numberAt}
 use Rattle.checker.specs.declared.Verdict.{Verdict}
 use Rattle.checker.specs.declared.Verdict.the-variants.{Accepted, Refused}
-use Rattle.checker.specs.Check.{checkOf, bufferOf}
+use Rattle.checker.specs.AlarmList.{alarmWords}
+use Rattle.checker.specs.Check.{checkOf}
 use Rattle.rangecheck.specs.Text.{decimalOf}
 
 unfoldable pub pick : Bool → List ℕ → List ℕ → List ℕ
@@ -61,11 +61,11 @@ refusedText rule place =
     (114 ∷ 101 ∷ 102 ∷ 117 ∷ 115 ∷ 101 ∷ 100 ∷ 32 ∷ [])
     ++ (decimalOf rule ++ ((32 ∷ []) ++ (tradeWord rule ++ ((32 ∷ 97 ∷ 116 ∷ 32 ∷ []) ++ (decimalOf place ++ (10 ∷ []))))))
 
--- the text of a verdict, with what the check left in the buffer
+-- the text of a verdict, with the alarm list
 unfoldable pub textOf : Verdict → List ℤ → List ℕ
 textOf (Accepted n) alarms = acceptedText alarms n
 textOf (Refused rule place) alarms = refusedText rule place
 
--- what is printed of a table and a proposal, with those alarm words lent
-abbrev pub printedOf : List ℤ → List ℤ → List ℤ → List ℕ
-printedOf t w alarms = textOf (checkOf t w (length alarms)) (bufferOf t w alarms)
+-- what is printed of a table and a proposal; the program 'lends 4096 alarm words'
+unfoldable pub printedOf : List ℤ → List ℤ → List ℕ
+printedOf t w = textOf (checkOf t w 4096) (alarmWords t w)

@@ -1,11 +1,9 @@
-// The text of a verdict and of its alarms.
+// The text of a verdict and of its alarms, put into a lent buffer.
 use crate::text::put;
 use crate::text::put_decimal;
 use words::number_at;
-ghost use mathlib.Core.Path.{_≡_};
 ghost use Prim.Native.Nat.{_+_, _≤_, _<_};
-ghost use lib.ListN.{length, take};
-ghost use Rattle.io.specs.Counts.{Counts};
+ghost use lib.ListN.{length};
 ghost use Rattle.rangecheck.specs.Text.{Put};
 ghost use Rattle.rangecheck.specs.Print.{tradeWord, lineOf, acceptedText, refusedText};
 
@@ -13,7 +11,7 @@ ghost use Rattle.rangecheck.specs.Print.{tradeWord, lineOf, acceptedText
 fn put_word(text: &mut [u8], at: usize, rule: u32) -> usize
     requires { ⌜ at + 7 ≤ length (now text) ⌝ }
     ensures next { λ r. ⌜ r ≤ at + 7 ⌝ }
-    ensures text { λ r. ⌜ Put (take at (now (text .entry))) (tradeWord rule) (take r (now (text .exit))) ⌝ }
+    ensures text { λ r. ⌜ Put (now (text .entry)) at (tradeWord rule) (now (text .exit)) r ⌝ }
 {
     match rule {
         1 => return put(text, at, b"length"),
@@ -40,7 +38,7 @@ fn put_word(text: &mut [u8], at: usize, rule: u32) -> usize
 fn put_alarm(text: &mut [u8], at: usize, alarms: &[i32], k: usize) -> usize
     requires { ⌜ (at + 35 ≤ length (now text)) × (k < 2048) ⌝ }
     ensures next { λ r. ⌜ r ≤ at + 35 ⌝ }
-    ensures text { λ r. ⌜ Put (take at (now (text .entry))) (lineOf (now (alarms .entry)) k) (take r (now (text .exit))) ⌝ }
+    ensures text { λ r. ⌜ Put (now (text .entry)) at (lineOf (now (alarms .entry)) k) (now (text .exit)) r ⌝ }
 {
     let node = put(text, at, b"node ");
     let kind = put_decimal(text, node, number_at(alarms, 2 * k) as u64);
@@ -53,8 +51,7 @@ fn put_alarm(text: &mut [u8], at: usize, alarms: &[i32], k: usize) -> usize
 // Puts the lines of an accepted check with n alarms; how many bytes they take.
 pub(crate) fn put_accepted(text: &mut [u8], alarms: &[i32], n: usize) -> usize
     requires { ⌜ (n ≤ 2048) × (72000 ≤ length (now text)) ⌝ }
-    ensures { λ r. ⌜ take r (now (text .exit)) ≡ acceptedText (now (alarms .entry)) n ⌝ }
-    ensures { λ r. ⌜ Counts r (now (text .exit)) ⌝ }
+    ensures { λ r. ⌜ Put (now (text .entry)) 0 (acceptedText (now (alarms .entry)) n) (now (text .exit)) r ⌝ }
 {
     let accepted = put(text, 0, b"accepted ");
     let count = put_decimal(text, accepted, n as u64);
@@ -70,8 +67,7 @@ pub(crate) fn put_accepted(text: &mut [u8], alarms: &[i32], n: usize) -> usize
 // Puts the line of a refusal; how many bytes it takes.
 pub(crate) fn put_refused(text: &mut [u8], rule: u32, place: usize) -> usize
     requires { ⌜ 72000 ≤ length (now text) ⌝ }
-    ensures { λ r. ⌜ take r (now (text .exit)) ≡ refusedText rule place ⌝ }
-    ensures { λ r. ⌜ Counts r (now (text .exit)) ⌝ }
+    ensures { λ r. ⌜ Put (now (text .entry)) 0 (refusedText rule place) (now (text .exit)) r ⌝ }
 {
     let refused = put(text, 0, b"refused ");
     let number = put_decimal(text, refused, rule as u64);

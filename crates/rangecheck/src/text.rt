@@ -1,14 +1,12 @@
-// Text that is put together in a lent buffer and written at once. What has been put so far is the front of the buffer, up to an index.
-ghost use mathlib.Core.Path.{_≡_};
+// Text that is put together in a lent buffer and written at once: each function puts its bytes at an index and gives the next one.
 ghost use Prim.Native.Nat.{_+_, _≤_};
-ghost use lib.ListN.{length, take};
+ghost use lib.ListN.{length};
 ghost use Rattle.rangecheck.specs.Text.{Put, decimalOf};
 
-// Puts bytes behind what there is, and gives the next index.
+// Puts the bytes of s.
 pub(crate) fn put(text: &mut [u8], at: usize, s: &[u8]) -> usize
     requires { ⌜ at + length (now s) ≤ length (now text) ⌝ }
-    ensures next { λ r. ⌜ r ≡ at + length (now (s .entry)) ⌝ }
-    ensures text { λ r. ⌜ Put (take at (now (text .entry))) (now (s .entry)) (take r (now (text .exit))) ⌝ }
+    ensures { λ r. ⌜ Put (now (text .entry)) at (now (s .entry)) (now (text .exit)) r ⌝ }
 {
     let n = bytes::copy(s, &mut text[at..]);
     at + n
@@ -18,7 +16,7 @@ pub(crate) fn put(text: &mut [u8], at: usize, s: &[u8]) -> usize
 pub(crate) fn put_decimal(text: &mut [u8], at: usize, n: u64) -> usize
     requires { ⌜ at + 20 ≤ length (now text) ⌝ }
     ensures next { λ r. ⌜ r ≤ at + 20 ⌝ }
-    ensures text { λ r. ⌜ Put (take at (now (text .entry))) (decimalOf n) (take r (now (text .exit))) ⌝ }
+    ensures text { λ r. ⌜ Put (now (text .entry)) at (decimalOf n) (now (text .exit)) r ⌝ }
 {
     let mut digits = [0u8; 20];
     let k = io::decimal(n, &mut digits);

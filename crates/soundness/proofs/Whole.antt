@@ -1,6 +1,6 @@
 -- Demand 3: the start, every step from any state with the invariant, every schedule, and the end.
 -- Assumes nothing.
-use Prim.Native.Nat.{ℕ, zero, suc, _+_, _/_, _<_}
+use Prim.Native.Nat.{ℕ, zero, suc, _+_, _<_}
 use mathlib.Core.Path.{_≡_, refl, sym, ap, subst, _∙_}
 use mathlib.Core.Bool.{Bool, true, false, cond}
 use mathlib.Core.List.{List}
@@ -8,24 +8,19 @@ use native.Mathlib.Omega.{arith}
 use borrow.Author.Tests.{ltb-true, lt-ltb}
 use lib.Dec.{ltb}
 use lib.IntN.{ℤ, pos, negsuc}
-use lib.ListN.{length, drop, getD-replicate}
-use lib.Seq.{take-append-seam}
-use Rattle.words.specs.declared.Stage.{Stage}
-use Rattle.words.specs.declared.Stage.the-variants.{Passed}
-use Rattle.words.specs.Stages.{bufferBy}
+use lib.ListN.{length, getD-replicate}
 use Rattle.words.specs.Words.{numberOf, numberAt}
 use Rattle.words.proofs.Bools.{and-left}
 use Rattle.words.proofs.FillLaws.{length-tabulate}
 use Rattle.table.specs.Layout.{sizesOf, firstOf, taskOf}
-use Rattle.table.specs.Validate.{validateOf}
 use Rattle.analysis.specs.Rows.{Inside}
 use Rattle.rules.specs.Held.{hasOf}
 use Rattle.rules.specs.Proposal.{heldWordOf, heldOf, rowAt}
 use Rattle.checker.specs.declared.Verdict.the-variants.{Accepted}
 use Rattle.checker.specs.AlarmList.{alarmWords}
-use Rattle.checker.specs.Check.{stagesOf, checkOf, bufferOf}
+use Rattle.checker.specs.Check.{checkOf}
 use Rattle.checker.specs.Laws.{Accepts}
-use Rattle.checker.proofs.AcceptLaws.{accepted-passed, accepts}
+use Rattle.checker.proofs.AcceptLaws.{accepts, accepted-buffer}
 use Rattle.run.specs.declared.State.{State}
 use Rattle.run.specs.State.{pointIn, ownerIn, isNumber, ownsOf, freeOf, firstsOf, valuesOf, startOf}
 use Rattle.run.specs.Step.{runsOf, turnBy, turnOf, stepBy, stepOf}
@@ -112,10 +107,8 @@ module _ (t w buffer schedule : List ℤ) (count : ℕ) (e : checkOf t w (length
 
   -- the words written on acceptance, as many as the count says, are those of the list
   pub list-is : listOf t w buffer count ≡ alarmWords t w
-  unfolding checkOf bufferBy bufferOf listOf
-  list-is =
-      let passed = accepted-passed (stagesOf t w (length buffer)) (length (alarmWords t w) / 2) count e .0 in
-      rw (passed, ← ok .listed) (take-append-seam (alarmWords t w) (drop (length (alarmWords t w)) buffer))
+  unfolding listOf
+  list-is = accepted-buffer t w buffer count e
 
   safe-each : (n : ℕ) → Safe t w (listOf t w buffer count) (after t schedule n .state)
   safe-each n =

@@ -1,7 +1,4 @@
--- `text::put` meets its contract: the copied bytes stand behind the front that was there. Assumes nothing.
-use Prim.Native.Nat.{ℕ, _+_}
-use mathlib.Core.Path.{ap}
-use native.Mathlib.Omega.{arith}
+-- `text::put` meets its contract: the copied bytes stand at their index, and all else stays. Assumes nothing.
 use denote.Ref.{now}
 use borrow.Author.Needs.{needs}
 use Rattle.rangecheck.proofs.TextLaws.{copied}
@@ -12,9 +9,8 @@ returns : tie.Need-returns
 returns c =
     let at-start = c .before .before .before .before .before .before in
     let s = at-start .args in
-    let room = at-start .pre in
     let copy = c .before .before .copy .ensures in
-    (ap (λ (n : ℕ). s .at + n) (copy .0), record { is = copied _ (s .at) (now (s .text)) (now (s .s)) _ (copy .0) (omega arith) (copy .1) _ })
+    copied (s .at) (now (s .text)) (now (s .s)) (at-start .pre) (copy .0) (copy .1)
 
 pub put-spec : {M : Type 1} → statement M
 put-spec =

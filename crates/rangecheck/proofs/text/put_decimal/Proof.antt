@@ -1,12 +1,10 @@
 -- `text::put_decimal` meets its contract: the digits that are put are the fewest that hold the number. Assumes nothing.
-use Prim.Native.Nat.{ℕ, _≤_}
-use mathlib.Core.Path.{_≡_, ap, _∙_}
-use mathlib.Core.List.{List, _++_}
+use Prim.Native.Nat.{_≤_}
+use mathlib.Core.Path.{_≡_, _∙_}
 use native.Mathlib.Omega.{arith}
 use lib.ListN.{length, take}
-use denote.Ref.{now}
 use borrow.Author.Needs.{needs}
-use Rattle.rangecheck.proofs.TextLaws.{fewest-few, fewest-digits}
+use Rattle.rangecheck.proofs.TextLaws.{fewest-few, fewest-digits, named}
 use Rattle.rangecheck.proofs.text.put_decimal.Statement.{statement}
 use Rattle.rangecheck.proofs.text.put_decimal.Tie as tie
 
@@ -29,10 +27,8 @@ returns c =
     let s = at-digits .before .before .before .args in
     let few = digits-few at-digits in
     let digits = at-digits .decimal .ensures .1 in
-    let put = c .before .before .put .ensures in (
-      rw (put .0, ← digits-put at-digits) (omega arith),
-      record { is = put .1 .is ∙ ap (λ (x : List ℕ). take (s .at) (now (s .text)) ++ x) (digits .1 ∙ fewest-digits _ 20 (s .n) few (digits .0)) },
-    )
+    let put = c .before .before .put .ensures in
+    (rw (put .next-is, ← digits-put at-digits) (omega arith), named (digits .1 ∙ fewest-digits _ 20 (s .n) few (digits .0)) put)
 
 pub put-decimal-spec : {M : Type 1} → statement M
 put-decimal-spec =
