@@ -1,23 +1,24 @@
 #!/usr/bin/env python3
 """Runs tools/encode, tools/show and tools/picture and compares what they print with what it should be: encode's bytes and its errors with line and
-column; show's lines on Bare, on the tower and on each refusal, and its formulas, read back by a parser of their own; picture's nodes, edges and
-colours; the verdicts and runs of examples/tower; and every command that a page quotes with its output, in README.md, docs/FORMAT.md and the tower's.
+column; show's lines on Bare, on the tower and on refusals of every rule, and its formulas, read back by a parser of their own; picture's nodes, edges
+and colours; and every command that a page quotes with its output, in README.md, docs/FORMAT.md and the tower's.
 
-Usage: tests/tools.py RANGECHECK RUN_TEST. dot isn't needed."""
-import html, os, random, re, shutil, subprocess, sys, tempfile
+What is shown and drawn comes with its answer: cases by hand that DIFFER prints, and drawn ones that CASES prints. Nothing here evaluates a formula.
+What the tower's texts come to is tested by tests/differ.
+
+Usage: tests/tools.py RANGECHECK CASES_TEST DIFFER CASES, four programs, the last two of tests/differ and of tests/peer. dot isn't needed."""
+import html, io, os, random, re, shutil, struct, subprocess, sys, tempfile
 from importlib.machinery import SourceFileLoader
 from types import ModuleType
-from check import BARE, BARE_PROPOSAL, FAULTS, NEVER, packed, refused, spelled
-from drawing import arithmetic, condition, fitted, table_drawn
-from reading import MAX, MIN, RULES, Proposal, Table, alarms_of, built, flat, outcomes, printed, proposal_words, value
-from run import played
 
-CHECKER, RUNNER = [os.path.abspath(path) for path in sys.argv[1:3]]
+CHECKER, RUNNER, DIFFER, CASES = [os.path.abspath(path) for path in sys.argv[1:5]]
 ROOT = os.path.join(os.path.dirname(os.path.abspath(__file__)), "..")
 TOOLS = os.path.join(ROOT, "tools")
 TOWER = os.path.join(ROOT, "examples", "tower")
-BAD = []
+MIN, MAX = -2147483648, 2147483647
+BAD, SHOWN = [], []
 sys.path.append(TOOLS)
+sys.setrecursionlimit(10000)  # a tree may be 1024 nodes deep
 
 
 def expect(what, got, want):
@@ -27,9 +28,37 @@ def expect(what, got, want):
             print("FAILED: %s:\n%s, not\n%s" % (what, repr(got)[:3000], repr(want)[:3000]))
 
 
+def loaded(name):
+    """A tool as a module: the many cases here needn't each start a Python. The commands of the pages do."""
+    module = ModuleType(name)
+    SourceFileLoader(name, os.path.join(TOOLS, name)).exec_module(module)
+    return module
+
+
+ENCODE, SHOW, PICTURE = loaded("encode"), loaded("show"), loaded("picture")
+MAIN = {"encode": ENCODE.main, "show": SHOW.main, "picture": PICTURE.main}
+
+
 def tool(name, *options, given=b""):
     """Standard output as bytes, standard error as text, and the status."""
-    ran = subprocess.run([sys.executable, os.path.join(TOOLS, name), *options], input=given, stdout=subprocess.PIPE, stderr=subprocess.PIPE, timeout=60)
+    before = sys.argv, sys.stdin, sys.stdout, sys.stderr
+    streams = [io.TextIOWrapper(io.BytesIO(data), "utf-8", write_through=True) for data in (given, b"", b"")]
+    sys.argv = [name, *options]
+    sys.stdin, sys.stdout, sys.stderr = streams
+    status = 0
+    try:
+        MAIN[name]()
+    except SystemExit as ended:
+        status = ended.code or 0
+    finally:
+        sys.argv, sys.stdin, sys.stdout, sys.stderr = before
+    out, error = [stream.buffer.getvalue() for stream in streams[1:]]
+    return out, error.decode(), status
+
+
+def started(path, *options):
+    """The same of a program on its own."""
+    ran = subprocess.run([sys.executable, path, *options], stdin=subprocess.DEVNULL, stdout=subprocess.PIPE, stderr=subprocess.PIPE, timeout=60)
     return ran.stdout, ran.stderr.decode(), ran.returncode
 
 
@@ -41,28 +70,74 @@ def lines(name, *options, given=b""):
     return out.decode().splitlines()
 
 
-def loaded(name):
-    """A tool as a module, for the many cases that needn't each start a program."""
-    module = ModuleType(name)
-    SourceFileLoader(name, os.path.join(TOOLS, name)).exec_module(module)
-    return module
-
-
-SHOW, PICTURE = loaded("show"), loaded("picture")
-
-
 def of(tool_lines, *parts):
     """The lines that a tool makes of a table and a proposal."""
     given = SHOW.from_either(packed([len(part) for part in parts], *parts))
     return list(tool_lines(given, SHOW.Answer(given, CHECKER)))
 
 
-def answered(program, data):
-    return subprocess.run([program], input=data, stdout=subprocess.PIPE, check=True, timeout=60).stdout.decode()
+def packed(*parts):
+    """Words as bytes, little-endian."""
+    return b"".join(struct.pack("<%di" % len(part), *part) for part in parts)
 
 
 def example(name):
     return os.path.join(TOWER, name)
+
+
+# ---- cases with their answers
+def cases(text):
+    """Tables and proposals, with the lines that are printed of them."""
+    for line in text.splitlines():
+        t, w, answer = [part.strip() for part in line.split("|")]
+        yield [int(z) for z in t.split()], [int(z) for z in w.split()], answer.split(";")
+
+
+def printed(*command):
+    return subprocess.run(command, stdout=subprocess.PIPE, check=True, timeout=60).stdout.decode()
+
+
+BY_HAND, DRAWN = list(cases(printed(DIFFER, "cases"))), list(cases(printed(CASES, "150", "1")))
+BARE = [2, 1, 0, 3, 1, 2, 1, 0, 1, 0, 0, 1, 0, 0, 0, 0, 0, 0, 0, 0, 0, 5, 0, 0]
+BARE_PROPOSAL = [3, 1, 0, 1, 0, 0, 0, 0, 0, 0, 0, 5, 0, 5, 0, 5, 5, 5]
+# the table of three tasks, with its proposal, of which the faults by hand are changes
+[(SOUND, SOUND_PROPOSAL)] = [(t, w) for t, w, answer in BY_HAND if answer == ["accepted 2", "node 5 zero", "node 9 overflow"]]
+CHILDREN = {3: 1, 8: 3, 22: 1, **{kind: 2 for kind in (4, 5, 6, 7, 16, 17, 18, 19, 20, 21)}}
+OWN_WORDS = {0: 1, 1: 2, 2: 1}  # of the kinds without children
+
+
+def refusal(answer):
+    """The number and the place that a refusal names, or None."""
+    words = answer[0].split()
+    return (int(words[1]), int(words[4])) if words[0] == "refused" else None
+
+
+class Parts:
+    """The points and nodes of a valid table, four words each, and the task of each point."""
+
+    def __init__(self, t):
+        tasks, variables, _, points, _ = t[:5]
+        fours = [t[i : i + 4] for i in range(5 + tasks + variables, len(t), 4)]
+        self.points, self.nodes = fours[:points], fours[points:]
+        self.owner = [u for u, share in enumerate(t[5 : 5 + tasks]) for _ in range(share)]
+
+    def roots(self, p):
+        """The node that a point uses, if it does."""
+        kind, a, b, _ = self.points[p]
+        return {1: [b], 2: [a]}.get(kind, [])
+
+    def tree(self, n):
+        """A kind and its fields, with trees in place of node numbers."""
+        kind, *fields = self.nodes[n]
+        return (kind, *map(self.tree, fields[: CHILDREN[kind]])) if kind in CHILDREN else (kind, *fields[: OWN_WORDS[kind]])
+
+    def nodes_of(self, n):
+        kind, *fields = self.nodes[n]
+        return {n}.union(*map(self.nodes_of, fields[: CHILDREN.get(kind, 0)]))
+
+    def edges(self):
+        for p, (kind, _, b, c) in enumerate(self.points):
+            yield from {0: [], 1: [(p, c, "")], 2: [(p, b, "yes"), (p, c, "no")], 3: [(p, b, "")], 4: [(p, b, "")]}[kind]
 
 
 # ---- encode
@@ -128,7 +203,7 @@ def encoding():
     bad = b"# \xff is fine here\ntable 1 \xff"
     expect("encode on a byte that is no UTF-8", tool("encode", given=bad), (b"", "line 2, column 9: '\\udcff' is no decimal number and no mark\n", 1))
     for name in ("encode", "show", "picture"):
-        expect("%s without its file" % name, tool(name, example("none.txt")), (b"", "%s: No such file or directory\n" % example("none.txt"), 1))
+        expect("%s without its file" % name, started(os.path.join(TOOLS, name), example("none.txt")), (b"", "%s: No such file or directory\n" % example("none.txt"), 1))
     rng = random.Random(20261118)
     for _ in range(20):
         t, w, s = [[rng.choice((MIN, MAX, 0, -1, rng.randrange(MIN, MAX + 1), rng.randrange(-9, 10))) for _ in range(rng.randrange(9))] for _ in range(3)]
@@ -163,7 +238,7 @@ NAMED = [
 ]
 NO_PARTS = "these bytes are no table and proposal: the lengths are outside 0..5149 and 0..11268, or bytes are missing\n"
 DISTURBED_SHOWN = ["refused 15 disturb at 2", "  point 2 of task 1, holding none: end", "  entry 0: task 0, holding none, writes v0 5", "  its row has only v0 0..4"]
-# what show says of some faults of tests/check.py, by number and place
+# what show says of some faults by hand, by number and place
 TOLD = {
     (1, 4): ["the table has 4 words, and its sizes alone are 5"],
     (1, 105): ["the table has 105 words, and its sizes call for 106"],
@@ -206,6 +281,48 @@ def marks(printed_lines):
     return [(above.split(), line.strip()) for above, line in zip(printed_lines, printed_lines[1:]) if line.strip().startswith("! refused")]
 
 
+def row_of(k, v):
+    """Which of the sound proposal's ends are those of a variable in a row."""
+    return 2 * k + v
+
+
+def entry_of(i):
+    return 28 + i
+
+
+def with_ends(changes):
+    """The sound proposal with other ends: of 102 words the low ends begin at 34 and the high ends at 68."""
+    w = list(SOUND_PROPOSAL)
+    for at, ends in changes.items():
+        w[34 + at], w[68 + at] = ends
+    return w
+
+
+def shown_refusals():
+    told = set()
+    for t, w, answer in BY_HAND + DRAWN:
+        broken = refusal(answer)
+        if broken is None:
+            continue
+        SHOWN.append(broken)
+        rule, place = broken
+        case = "%s, at %s | %s" % (answer[0], t, w)
+        got = of(SHOW.shown, t, w)
+        expect("show's first line, %s" % case, got[0], answer[0])
+        expect("show says something, %s" % case, got[1:2] != [] and got[1].startswith("  "), True)
+        if TOLD.get(broken, [""]) == [line[2:] for line in got[1 : 1 + len(TOLD.get(broken, []))]]:
+            told.add(broken)
+        points = t[3] if rule >= 3 else 0
+        if rule in (12, 13, 14, 15) or rule in (5, 11, 16) and place < points:
+            expect("show marks the point, %s" % case, [above[0] for above, _ in marks(got)], [str(place)])
+        if rule == 10 or rule == 16 and place >= points:
+            expect("show marks the entry, %s" % case, [above[0] for above, _ in marks(got)], [str(place if rule == 10 else place - points)])
+        if rule == 11 and place >= points:
+            expect("show marks the rest row, %s" % case, [above[0] for above, _ in marks(got)], ["m%d" % (place - points)])
+    expect("what show says of refusals", sorted(told), sorted(TOLD))
+    expect("the rules that are shown", {rule for rule, _ in SHOWN}, set(range(1, 17)))
+
+
 def showing():
     bare = "table %s # Bare\nproposal %s" % (" ".join(map(str, BARE)), " ".join(map(str, BARE_PROPOSAL)))
     expect("show on Bare", lines("show", given=bare.encode()), BARE_SHOWN)
@@ -217,33 +334,18 @@ def showing():
     # names; none is given twice, and none is a word of formulas
     named = lines("show", given=("# name v0 way: how far\n#name t1 walker \n# name t0 way\n# name t0 if\n" + bare).encode())
     expect("show with names", [line for line in named if line not in BARE_SHOWN], NAMED)
-    told = set()
-    for rule, place, changes in FAULTS:
-        t, w = spelled(changes)
-        got = of(SHOW.shown, t, w)
-        expect("show's first line on %s" % changes, got[0], refused(rule, place))
-        expect("show says something of %s" % changes, got[1:2] != [] and got[1].startswith("  "), True)
-        if (rule, place) in TOLD and (rule, place) not in told:
-            said = TOLD[rule, place]
-            told |= {(rule, place)} if got[1 : 1 + len(said)] == ["  " + line for line in said] else set()
-        if rule in (12, 13, 14, 15) or rule in (5, 11, 16) and place < 12:
-            expect("show marks the point of %s" % changes, [above[0] for above, _ in marks(got)], [str(place)])
-        if rule == 10 or rule == 16 and place >= 12:
-            expect("show marks the entry of %s" % changes, [above[0] for above, _ in marks(got)], [str(place if rule == 10 else place - 12)])
-        if rule == 11 and place >= 12:
-            expect("show marks the rest row of %s" % changes, [above[0] for above, _ in marks(got)], ["m%d" % (place - 12)])
-    expect("what show says of refusals", sorted(told), sorted(TOLD))
+    shown_refusals()
     # 15: neither an entry of the task itself disturbs nor one whose held set isn't disjoint
     for changes, place, entry, has in (
-        ({"entry 1": (0, 13), "entry 5": (0, 12)}, 0, "entry 5: task 2, holding m0, writes v0 0..12", "v0 0..9"),
-        ({"entry 3": (0, 12), "entry 4": (-4, 3), "row 0 0": (0, 12), "row 0 1": (-4, 3)}, 1, "entry 4: task 2, holding none, writes v1 -4..3", "v1 -3..3"),
+        ({entry_of(1): (0, 13), entry_of(5): (0, 12)}, 0, "entry 5: task 2, holding m0, writes v0 0..12", "v0 0..9"),
+        ({entry_of(3): (0, 12), entry_of(4): (-4, 3), row_of(0, 0): (0, 12), row_of(0, 1): (-4, 3)}, 1, "entry 4: task 2, holding none, writes v1 -4..3", "v1 -3..3"),
     ):
-        got = of(SHOW.shown, *spelled(changes))
-        expect("show on %s" % changes, [got[0]] + got[2:4], [refused(15, place), "  " + entry, "  its row has only " + has])
+        got = of(SHOW.shown, SOUND, with_ends(changes))
+        expect("show on %s" % changes, [got[0]] + got[2:4], ["refused 15 disturb at %d" % place, "  " + entry, "  its row has only " + has])
     # 16: an entry under a mutex has no say in that mutex's rest row
-    changes = {"entry 1": (0, 12), **{"row %d 0" % p: (0, 12) for p in (4, 7, 8, 11)}}
-    want = [refused(16, 13), "  entry 1: task 0, holding m0, writes v0 0..12", "  the rest row of m1 has only v0 0..9", ""]
-    expect("show on %s" % changes, of(SHOW.shown, *spelled(changes))[:4], want)
+    changes = {entry_of(1): (0, 12), **{row_of(p, 0): (0, 12) for p in (4, 7, 8, 11)}}
+    want = ["refused 16 rest at 13", "  entry 1: task 0, holding m0, writes v0 0..12", "  the rest row of m1 has only v0 0..9", ""]
+    expect("show on %s" % changes, of(SHOW.shown, SOUND, with_ends(changes))[:4], want)
     # input that can't be shown
     for given, message in (
         (b"table 1", "line 1, column 8: the text ends and has no section 'proposal'\n"), (b"table z", "line 1, column 7: 'z' is no decimal number and no mark\n"),
@@ -257,12 +359,12 @@ def showing():
     with tempfile.TemporaryDirectory() as folder:
         folder = os.path.realpath(folder)
         shutil.copytree(TOOLS, os.path.join(folder, "tools"))
-        for name, built_by, options in (("show", "rangecheck", []), ("picture", "rangecheck", []), ("show", "run_test", ["--run"])):
+        for name, built_by, options in (("show", "rangecheck", []), ("picture", "rangecheck", []), ("show", "cases_test", ["--run"])):
             path = os.path.join(folder, "target", "bin", built_by)
             message = "there is no program %s; `rt check %s` builds it\n" % (path, built_by)
-            expect("%s before %s is built" % (name, built_by), tool(os.path.join(folder, "tools", name), *options, example("tower.txt")), (b"", message, 1))
+            expect("%s before %s is built" % (name, built_by), started(os.path.join(folder, "tools", name), *options, example("tower.txt")), (b"", message, 1))
     # one node above another to the depth that a table allows, one used by two; one that is its own child, and other bad fields
-    deep = built([2], [0], 0, [[1, 0, nested(1024), 1], [0]])
+    deep = [1, 1, 0, 2, 1024, 2, 0, 1, 0, 1023, 1, 0, 0, 0, 0, 2, 0, 0, 0] + sum(([3, n, 0, 0] for n in range(1023)), [])
     got = of(SHOW.shown, deep, [])
     expect("show on a deep formula", "  0      v0 := -%sv0%s, on to 1" % ("(-" * 1022, ")" * 1022) in got, True)
     twice = [1, 1, 0, 1, 15, 1, 0, 1, 0, 14, 0, 2, 0, 0, 0] + sum(([4, n, n, 0] for n in range(14)), [])
@@ -276,23 +378,16 @@ def showing():
         expect("show on the node %s" % node, got[:3], ["refused 4 node at 0", "  node 0 is the words %d %d %d %d" % tuple(node), "  " + told])
     got = of(SHOW.shown, [1, 1, 0, 1, 0, 1, 0, 3, 0, 0, 0], [])
     expect("show on a point", got[:3], ["refused 5 point at 0", "  point 0 of task 0 is the words 3 0 0 0", "  kind 3 is followed by: mutex, target, 0; a target is a point of the same task"])
-    # runs: of a table that isn't played, of bytes, of more words than run_test reads, of an ended task
+    # runs: of a table that isn't played, of bytes, of more words than cases_test reads, of an ended task
     small = "table 1 1 0 1 0 1 7 0 0 0 0 schedule"
     expect("show --run", lines("show", "--run", given=(small + " 0 5").encode()), ["after the schedule's 2 words", "  task 0 stands at 0: end", "  v0 7"])
     got = lines("show", "--run", given=b"table 9 1 0 1 0 1 7 0 0 0 0 schedule 0")
     expect("show --run on a refused table", got, ["refused 2 size at 0", "  word 0 of the table, the number of tasks, is 9; it must lie in 1..8"])
     for given, message in (
         (packed([24, 18], BARE, BARE_PROPOSAL), "bytes have no schedule\n"), (b"table 1 proposal", "line 1, column 17: the text ends and has no section 'schedule'\n"),
-        (small.encode() + b" 0" * 6001, "the run was not read: the table or the schedule is longer than run_test reads\n"),
+        (small.encode() + b" 0" * 6001, "the run was not read: the table or the schedule is longer than cases_test reads\n"),
     ):
         expect("show --run on %r" % given[:40], tool("show", "--run", "--runner", RUNNER, given=given), (b"", message, 1))
-
-
-def nested(depth):
-    tree = (2, 0)
-    for _ in range(depth - 1):
-        tree = (3, tree)
-    return tree
 
 
 # ---- formulas, read back
@@ -389,37 +484,22 @@ def read_back(text, condition_wanted):
 
 
 def formulas():
-    rng = random.Random(20261119)
     count = 0
-    for _ in range(12):
-        points, nodes, trees = [], [], []
-        while len(points) < 200:
-            test = rng.random() < 0.5
-            tree = condition(rng, 4, 4) if test else arithmetic(rng, 4, 4)
-            if len(nodes) + len(flat_nodes(tree)) > 1024:
-                break
-            flat(tree, nodes)
-            trees.append(tree)
-            points.append([2, tree, 0, 0] if test else [1, 0, tree, 0])
-        t = built([len(points)], [0] * 4, 0, points)
-        got = [line for line in of(SHOW.shown, t, []) if re.match(r"  \d+ +\S", line)]
-        expect("a line for each point", len(got), len(points))
-        for p, (line, point) in enumerate(zip(got, points)):
-            found = re.fullmatch(r"  (\d+) +(?:v0 := (.*), on to 0|(.*)\? yes 0, no 0)", line)
-            test = point[0] == 2
-            try:
-                tree = read_back(found.group(3 if test else 2), test)
-            except (SyntaxError, AttributeError, KeyError, ValueError) as problem:
-                tree = repr(problem)
-            expect("formula %s" % line.strip(), tree, trees[p])
-            count += 1
+    for t in {tuple(t): None for t, _, answer in DRAWN if (refusal(answer) or (7,))[0] > 6}:
+        table = Parts(t)
+        got = [line for line in of(SHOW.shown, list(t), []) if re.match(r"  \d+ +\S", line)]
+        expect("a line for each point of %s" % (t,), [int(line.split()[0]) for line in got], list(range(len(table.points))))
+        for p, line in enumerate(got):
+            for root in table.roots(p):
+                found = re.fullmatch(r"  \d+ +(?:v\d+ := (.*), on to \d+|(.*)\? yes \d+, no \d+)", line)
+                test = table.points[p][0] == 2
+                try:
+                    tree = read_back(found.group(2 if test else 1), test)
+                except (SyntaxError, AttributeError, KeyError, ValueError) as problem:
+                    tree = repr(problem)
+                expect("formula %s" % line.strip(), tree, table.tree(root))
+                count += 1
     return count
-
-
-def flat_nodes(tree):
-    nodes = []
-    flat(tree, nodes)
-    return nodes
 
 
 # ---- picture
@@ -440,11 +520,6 @@ def graph(printed_lines):
     return nodes, edges, tasks, titles
 
 
-def edges_of(table):
-    for p, (kind, _, b, c) in enumerate(table.points):
-        yield from {0: [], 1: [(p, c, "")], 2: [(p, b, "yes"), (p, c, "no")], 3: [(p, b, "")], 4: [(p, b, "")]}[kind]
-
-
 def picturing():
     bare = lines("picture", given=packed([24, 18], BARE, BARE_PROPOSAL))
     nodes, edges, tasks, titles = graph(bare)
@@ -455,38 +530,31 @@ def picturing():
     # a point that is refused, one that is never reached
     nodes = graph(of(PICTURE.drawn, BARE, BARE_PROPOSAL[:-2] + [4, 5]))[0]
     expect("picture of a refusal", [("orange" in look, label[-2:]) for label, look in nodes.values()][1:], [(False, ["end", "v0 5"]), (True, ["! refused 15 disturb at 2", "v0 0..4"])])
-    w = proposal_words(1, [0, -1], [], [[(0, 0)], [(-1, 4)]], [])
-    nodes, edges, _, _ = graph(of(PICTURE.drawn, NEVER, w))
+    # end; v0 := 9 / v0, which nothing goes to
+    never = [1, 1, 0, 2, 3, 2, 0, 0, 0, 0, 0, 1, 0, 2, 0, 0, 9, 0, 0, 2, 0, 0, 0, 7, 0, 1, 0]
+    w = [2, 1, 0, 0, 0, -1, 0, -1, 0, 4]
+    nodes, edges, _, _ = graph(of(PICTURE.drawn, never, w))
     expect("picture of a point that isn't reached", (nodes[1], edges), ((["1  never reached", "v0 := 9 / v0"], ", color=gray, fontcolor=gray, style=dashed"), {(1, 0, "")}))
-    expect("show on a point that isn't reached", of(SHOW.shown, NEVER, w)[-1], "  1      never  -   v0 := 9 / v0, on to 0")
-    rng = random.Random(20261120)
-    red = dashed = 0
-    for _ in range(25):
-        t = table_drawn(rng)
-        w = fitted(rng, t)
-        table = Table(t)
-        proposal = Proposal(table, w)
+    expect("show on a point that isn't reached", of(SHOW.shown, never, w)[-1], "  1      never  -   v0 := 9 / v0, on to 0")
+    red = dashed = count = 0
+    for t, w, answer in DRAWN:
+        if refusal(answer) and refusal(answer)[0] < 12:
+            continue
+        count += 1
+        table, alarms = Parts(t), [tuple(line.split()[1:]) for line in answer[1:]]
         nodes, edges, tasks, titles = graph(of(PICTURE.drawn, t, w))
-        expect("edges of %s" % t, edges, set(edges_of(table)))
+        expect("edges of %s" % t, edges, set(table.edges()))
         expect("tasks of %s" % t, [tasks[p] for p in sorted(tasks)], table.owner)
-        accepted = printed(t, w).startswith("accepted")
         for p, (label, look) in nodes.items():
-            alarmed = accepted and proposal.held[p] != -1 and alarms_at(table, proposal, p) != []
-            expect("red at %d of %s" % (p, t), "color=red" in look, alarmed)
-            expect("dashed at %d of %s" % (p, t), "dashed" in look, proposal.held[p] == -1)
-            shown_alarms = re.findall(r"! node (\d+) (overflow|zero):", " ".join(label))
-            expect("alarms at %d of %s" % (p, t), [(int(n), ("overflow", "zero").index(k) + 1) for n, k in shown_alarms], alarms_at(table, proposal, p) if alarmed else [])
-            red += alarmed
-            dashed += proposal.held[p] == -1
+            below = set().union(*map(table.nodes_of, table.roots(p)))
+            own = [alarm for alarm in alarms if int(alarm[0]) in below]
+            expect("red at %d of %s" % (p, t), "color=red" in look, own != [])
+            expect("dashed at %d of %s" % (p, t), "dashed" in look, w[4 + p] == -1)
+            expect("alarms at %d of %s" % (p, t), re.findall(r"! node (\d+) (overflow|zero):", " ".join(label)), own)
+            red += own != []
+            dashed += w[4 + p] == -1
     expect("pictures with red and dashed points", (red > 10, dashed > 10), (True, True))
-
-
-def alarms_at(table, proposal, p):
-    """The alarms of one point, by the reading of the rules."""
-    proposal.reached, every = [p] if proposal.held[p] != -1 else [], proposal.reached
-    found = alarms_of(table, proposal)
-    proposal.reached = every
-    return found
+    return count
 
 
 # ---- the tower
@@ -503,35 +571,12 @@ def sections(name):
 
 
 def tower():
-    for name, answer in (("tower.txt", "accepted 2\nnode 25 overflow\nnode 36 zero\n"), ("wrong.txt", "refused 14 write at 19\n")):
+    for name in ("tower.txt", "wrong.txt"):
         t, w, s = sections(name)
-        given, error, status = tool("encode", example(name))
-        expect("encode %s" % name, (given, error, status), (packed([len(t), len(w)], t, w), "", 0))
-        expect("the verdict of %s" % name, answered(CHECKER, given), answer)
-        expect("the verdict of %s, read once more" % name, printed(t, w), answer)
-        given, error, status = tool("encode", "--run", example(name))
-        expect("encode --run %s" % name, (given, error, status), (packed([len(t), len(s)], t, s), "", 0))
-        expect("the run of %s" % name, answered(RUNNER, given), played(t, s) + "\n")
-        stops = played(t, s).split()[32:36] + played(t, s).split()[40:44]
-        expect("where the tasks of %s stop" % name, stops, "-1 25 -1 36 0 1 0 2".split() if name == "tower.txt" else "15 -1 -1 -1 2 0 0 0".split())
+        expect("encode %s" % name, tool("encode", example(name)), (packed([len(t), len(w)], t, w), "", 0))
+        expect("encode --run %s" % name, tool("encode", "--run", example(name)), (packed([len(t), len(s)], t, s), "", 0))
         expect("show %s in text and bytes" % name, len(lines("show", example(name))), len(of(SHOW.shown, t, w)))
-    # the fault of wrong.txt breaks no other rule; the node at which its run stops is one that tower.txt's list rightly leaves out, on the same row
-    t, w, _ = sections("wrong.txt")
-    table = Table(t)
-    proposal = Proposal(table, w)
-    expect("the rules that wrong.txt breaks", [rule for rule, broken in RULES if list(broken(table, proposal))], [14])
-    expect("60 / doors by wrong.txt's row", value(table.nodes, 15, proposal.rows[6]), ((5, 60), set()))
-    t, w, _ = sections("tower.txt")
-    table = Table(t)
-    proposal = Proposal(table, w)
-    expect("tasks that hold both locks", {table.owner[p] for p in range(25) if proposal.held[p] == 3}, {0, 2})
-    expect("each point is reached and each way is possible", [len(outcomes(table, proposal, p)) for p in range(25)], [len([e for e in edges_of(table) if e[0] == p]) for p in range(25)])
-    # no range can be narrower: with any end moved inwards by one, or any held word changed, it is refused
-    ends = len(w) - 2 * len(proposal.ends)
-    for i in range(4, len(w)):
-        if not 29 <= i < ends:
-            moved = w[i] + (1 if i < ends + len(proposal.ends) else -1)
-            expect("tower.txt with word %d moved" % i, printed(t, w[:i] + [moved] + w[i + 1 :])[:7], "refused")
+    table = Parts(sections("tower.txt")[0])
     got = lines("show", example("tower.txt"))
     point = "  14     drive  0..9   0..9  1..12  83333333..1000000000  MIN..MAX  -25..25  5..60  5..60  offset := offset + input(-1000000000..1000000000), on to 15"
     alarm = " " * point.index("offset") + "! node 25 overflow: offset + input(-1000000000..1000000000)"
@@ -543,7 +588,7 @@ def tower():
     nodes, edges, tasks, titles = graph(drawing)
     expect("the tower's tasks", titles, ["task 0 (lift)", "task 1 (turntable)", "task 2 (ring)", "task 3 (board)"])
     expect("the tower's red points", [p for p, (_, look) in nodes.items() if "red" in look], [14, 24])
-    expect("the tower's edges", edges, set(edges_of(table)))
+    expect("the tower's edges", edges, set(table.edges()))
     expect("point 8", nodes[8][0][:3], ["8  holds shaft+drive", "door := offset / pitch", "floor 0..9, goal 0..9, doors 1..12,"])
     # the picture that is kept is this one
     with open(example("tower.svg")) as file:
@@ -603,11 +648,12 @@ def main():
     encoding()
     showing()
     count = formulas()
-    picturing()
+    pictures = picturing()
     tower()
     commands = pages()
-    print("tools: %d errors of encode, %d refusals shown, %d formulas read back, %d commands of the pages, %d wrong" % (len(ERRORS) + len(RUN_ERRORS), len(FAULTS), count, commands, len(BAD)))
-    sys.exit(len(BAD) != 0 or not count or not commands)
+    tried = (len(ERRORS) + len(RUN_ERRORS), len(SHOWN), count, pictures, commands)
+    print("tools: %d errors of encode, %d refusals shown, %d formulas read back, %d pictures, %d commands of the pages, %d wrong" % (*tried, len(BAD)))
+    sys.exit(len(BAD) != 0 or 0 in tried)
 
 
 if __name__ == "__main__":

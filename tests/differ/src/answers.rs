@@ -1,6 +1,5 @@
 //! What both sides say of a case, and all that they write.
 
-use peer::generate::Case;
 use peer::words::Refusal as PeerRefusal;
 use peer::{State, Verdict};
 use rangecheck::{check_into, run_into, Refusal, STATE_WORDS};
@@ -8,6 +7,10 @@ use std::fmt::Debug;
 
 /// Words on both sides of a lent slice, which nobody may write.
 const MARGIN: usize = 8;
+
+/// What a check should say: its alarms as pairs of a node and a kind, or the
+/// refusal, of which 17 is left to the room there is.
+pub type Wanted = Result<Vec<[i32; 2]>, PeerRefusal>;
 
 pub struct Answer<T> {
     /// How many alarms there are, for a run 0, or the refusal.
@@ -23,26 +26,41 @@ impl<T> Answer<T> {
 }
 
 impl Answer<i32> {
-    pub fn check(case: &Case) -> Answer<i32> {
-        let mut words = alarm_words(case);
-        let said = check_into(&case.table, &case.proposal, lent(&mut words));
+    pub fn check(table: &[i32], proposal: &[i32], room: usize) -> Answer<i32> {
+        let mut words = alarm_words(room);
+        let said = check_into(table, proposal, lent(&mut words));
         Answer { said, words }
     }
 
-    pub fn check_by_peer(case: &Case) -> Answer<i32> {
-        let mut words = alarm_words(case);
-        let said = match peer::check(&case.table, &case.proposal, lent(&mut words)) {
+    pub fn check_by_peer(table: &[i32], proposal: &[i32], room: usize) -> Answer<i32> {
+        let mut words = alarm_words(room);
+        let said = match peer::check(table, proposal, lent(&mut words)) {
             Verdict::Accepted { count } => Ok(count),
             Verdict::Refused { rule, place } => Err(refusal((rule, place))),
+        };
+        Answer { said, words }
+    }
+
+    /// A list that is written out, in a buffer that it fits or doesn't.
+    pub fn check_by_hand(wanted: &Wanted, room: usize) -> Answer<i32> {
+        let mut words = alarm_words(room);
+        let said = match wanted {
+            Err(refused) => Err(refusal(*refused)),
+            Ok(alarms) if room < 2 * alarms.len() => Err(refusal((17, 2 * alarms.len()))),
+            Ok(alarms) => {
+                let list = alarms.as_flattened();
+                lent(&mut words)[..list.len()].copy_from_slice(list);
+                Ok(alarms.len())
+            }
         };
         Answer { said, words }
     }
 }
 
 impl Answer<i64> {
-    pub fn run(case: &Case, room: usize) -> Answer<i64> {
+    pub fn run(table: &[i32], schedule: &[i32], room: usize) -> Answer<i64> {
         let mut words = state_words(room);
-        let said = run_into(&case.table, &case.schedule, lent(&mut words)).map(|()| 0);
+        let said = run_into(table, schedule, lent(&mut words)).map(|()| 0);
         Answer { said, words }
     }
 
@@ -70,8 +88,8 @@ fn refusal((number, place): PeerRefusal) -> Refusal {
 
 /// Distinct words, so that a stray write or a missing one shows; no alarm has
 /// a negative word.
-fn alarm_words(case: &Case) -> Vec<i32> {
-    (1..).map(|place: i32| -place).take(case.room + 2 * MARGIN).collect()
+fn alarm_words(room: usize) -> Vec<i32> {
+    (1..).map(|place: i32| -place).take(room + 2 * MARGIN).collect()
 }
 
 /// The same for a state, whose words are all small.

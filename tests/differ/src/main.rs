@@ -1,14 +1,21 @@
 //! Compares the proved check and run with the independent implementation in
 //! one process, case by case: `differ CASES SEED [SECONDS]`. With SECONDS,
-//! rounds of CASES go on until so many have passed.
+//! rounds of CASES go on until so many have passed. `differ families BIN` runs
+//! the families of cases, also on the programs in that folder, and `differ
+//! cases` prints those of checks by hand.
 
 mod answers;
+// Whole, though no family has use for all of it yet.
+#[allow(dead_code)]
+mod build;
 mod counts;
+mod families;
 
 use answers::{differences, Answer};
 use counts::Counts;
 use peer::generate::{case, Case, Random};
 use rangecheck::STATE_WORDS;
+use std::path::Path;
 use std::process::ExitCode;
 use std::time::{Duration, Instant};
 
@@ -16,15 +23,32 @@ use std::time::{Duration, Instant};
 const SHOWN: usize = 5;
 
 fn main() -> ExitCode {
-    let given: Result<Vec<u64>, _> = std::env::args().skip(1).map(|text| text.parse()).collect();
-    let (cases, seed, seconds) = match given.as_deref() {
-        Ok(&[cases, seed]) => (cases, seed, 0),
-        Ok(&[cases, seed, seconds]) => (cases, seed, seconds),
-        _ => {
-            eprintln!("usage: differ CASES SEED [SECONDS]");
-            return ExitCode::from(2);
+    let given: Vec<String> = std::env::args().skip(1).collect();
+    let given: Vec<&str> = given.iter().map(String::as_str).collect();
+    let right = match given[..] {
+        ["families", bin] => families::run(Path::new(bin)),
+        ["cases"] => {
+            families::print_cases();
+            true
         }
+        _ => match numbers(&given).as_deref() {
+            Some(&[cases, seed]) => drawn(cases, seed, 0),
+            Some(&[cases, seed, seconds]) => drawn(cases, seed, seconds),
+            _ => {
+                eprintln!("usage: differ CASES SEED [SECONDS] | families BIN | cases");
+                return ExitCode::from(2);
+            }
+        },
     };
+    ExitCode::from(u8::from(!right))
+}
+
+fn numbers(given: &[&str]) -> Option<Vec<u64>> {
+    given.iter().map(|text| text.parse().ok()).collect()
+}
+
+/// Compares drawn cases, and says whether all were right.
+fn drawn(cases: u64, seed: u64, seconds: u64) -> bool {
     let start = Instant::now();
     let mut random = Random::new(seed);
     // Of their own, so that the cases are those that the peer's census counts.
@@ -39,7 +63,7 @@ fn main() -> ExitCode {
         }
     }
     counts.print();
-    ExitCode::from(u8::from(counts.wrong > 0))
+    counts.wrong == 0
 }
 
 /// The length of an answer slice: mostly just enough, else more or too few.
@@ -52,13 +76,15 @@ fn answer_room(random: &mut Random) -> usize {
 }
 
 fn compare(counts: &mut Counts, case: &Case, room: usize) {
-    let checked = Answer::check_by_peer(case);
+    let checked = Answer::check_by_peer(&case.table, &case.proposal, case.room);
     let played = peer::run(&case.table, &case.schedule);
     let ran = Answer::run_by_peer(&played, room);
     counts.check(&checked);
     counts.run(&ran, &played);
-    let mut found = differences("check", &Answer::check(case), &checked);
-    found.extend(differences("run", &Answer::run(case, room), &ran));
+    let check = Answer::check(&case.table, &case.proposal, case.room);
+    let run = Answer::run(&case.table, &case.schedule, room);
+    let mut found = differences("check", &check, &checked);
+    found.extend(differences("run", &run, &ran));
     if !found.is_empty() {
         counts.wrong += 1;
         if counts.wrong <= SHOWN {

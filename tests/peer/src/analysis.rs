@@ -76,7 +76,7 @@ pub fn arithmetic(
     let computed: Computed = match nodes[usize::from(node)] {
         Node::Constant(value) => return Some(Interval::single(value)),
         Node::Input(interval) => return Some(interval),
-        Node::Variable(variable) => return Some(row.get(variable)),
+        Node::Variable(variable) => return row.interval(variable),
         Node::Negation(a) => arithmetic(nodes, a, row, alarms)?.negation(),
         Node::Sum(a, b) => {
             let (a, b) = operands!(a, b);
@@ -225,6 +225,24 @@ mod tests {
             Node::Choice { condition: 9, then: 11, otherwise: 13 },
         ];
         assert_eq!(evaluated(&nodes, &[Interval::FULL]), (None, vec![[2, 2]]));
+    }
+
+    #[test]
+    fn ends_handed_in_the_wrong_way_round_are_none() {
+        // 1 / v0 + v1, and v1 alone.
+        let nodes = [
+            Node::Constant(1),
+            Node::Variable(0),
+            Node::Quotient(0, 1),
+            Node::Variable(1),
+            Node::Sum(2, 3),
+        ];
+        let row = Ends { lows: &[0, 3], highs: &[9, 2] }.row();
+        let mut raised = Raised::default();
+        assert_eq!(arithmetic(&nodes, 4, &row, &mut raised), None);
+        assert_eq!(raised.pairs().collect::<Vec<_>>(), [[2, 2]]);
+        assert_eq!(arithmetic(&nodes, 3, &row, &mut Silent), None);
+        assert_eq!(arithmetic(&nodes, 1, &row, &mut Silent), Some(of(0, 9)));
     }
 
     #[test]

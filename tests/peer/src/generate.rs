@@ -2,7 +2,7 @@
 //! proposals that fit, the same with one thing nudged, damaged ones, buffers
 //! around the needed length, and schedules.
 
-mod changes;
+pub mod changes;
 mod draft;
 mod random;
 mod settle;

@@ -71,6 +71,7 @@ fn compare(
 
 #[cfg(test)]
 mod tests {
+    use super::super::Ends;
     use super::*;
 
     fn of(low: i32, high: i32) -> Interval {
@@ -131,6 +132,29 @@ mod tests {
         // Neither: v1 at most v0, then 3 at most v1.
         assert_eq!(narrowed(&either, false, &row), Some(Row::of(&[of(0, 9), of(3, 9)])));
         assert_eq!(narrowed(&either, false, &[of(0, 2), of(4, 9)]), None);
+    }
+
+    #[test]
+    fn ends_in_the_wrong_order_stay_where_nothing_reads_them() {
+        // v0 < 5, and v1 < 5 of which nothing is known.
+        let nodes = [
+            Node::Variable(0),
+            Node::Constant(5),
+            Node::Less(0, 1),
+            Node::Variable(1),
+            Node::Constant(5),
+            Node::Less(3, 4),
+            Node::Either(2, 5),
+        ];
+        let given = Ends { lows: &[0, 3], highs: &[9, 2] };
+        for top in [2, 6] {
+            let mut row = given.row();
+            assert!(narrow(&nodes, top, true, &mut row));
+            assert_eq!(row, Ends { lows: &[0, 3], highs: &[4, 2] }.row());
+        }
+        assert!(!narrow(&nodes, 5, true, &mut given.row()));
+        assert!(!narrow(&nodes, 5, false, &mut given.row()));
+        assert!(!narrow(&nodes, 6, false, &mut given.row()));
     }
 
     #[test]

@@ -33,6 +33,16 @@ impl Row {
         Row { lows: *values, highs: *values }
     }
 
+    /// The interval of a variable, for ends in any order: a low end above its
+    /// high is taken as none. A row that is handed in can have such ends.
+    #[inline]
+    pub fn interval(&self, variable: u8) -> Option<Interval> {
+        let variable = usize::from(variable);
+        Interval::new(self.lows[variable], self.highs[variable])
+    }
+
+    /// The same for a row of a proposal, whose ends are in order once refusal 9
+    /// is past.
     #[inline]
     pub fn get(&self, variable: u8) -> Interval {
         let variable = usize::from(variable);

@@ -1,0 +1,212 @@
+//! Document 01's examples, the errors that it lists, and its sentences on
+//! outcomes and alarms.
+
+use super::Check;
+use crate::build::*;
+
+pub fn cases() -> Vec<Check> {
+    let mut cases = Vec::new();
+    examples(&mut cases);
+    errors_of_the_trade(&mut cases);
+    outcomes(&mut cases);
+    no_outcome(&mut cases);
+    cases
+}
+
+fn v() -> Tree {
+    var(0)
+}
+
+pub fn bare() -> Vec<i32> {
+    table(&[2, 1], &[0], 0, &[assign(0, num(5), 1), end(), end()])
+}
+
+/// Bare's proposal with the last two high ends: of point 2 and of the entry.
+fn bare_proposal(row: i32, entry: i32) -> Vec<i32> {
+    let rows = [vec![(0, 0)], vec![(5, 5)], vec![(0, row)]];
+    proposal(1, &[0; 3], &[], &rows, &[([0, 0, 0], (5, entry))])
+}
+
+fn examples(cases: &mut Vec<Check>) {
+    let small = table(&[1], &[0], 0, &[end()]);
+    let small_proposal = proposal(1, &[0], &[], &rows(1, &[(0, 0)]), &[]);
+    let large_first = [&[9], &small[1..]].concat();
+    cases.extend([
+        Check::new(bare(), bare_proposal(5, 5), "accepted 0"),
+        Check::new(bare(), bare_proposal(4, 5), "refused 15 disturb at 2"),
+        Check::new(bare(), bare_proposal(5, 4), "refused 9 range at 13"),
+        Check::new([], [], "refused 1 length at 0"),
+        Check::new(&*small, &*small_proposal, "accepted 0"),
+        Check::new(&small[..10], &*small_proposal, "refused 1 length at 10"),
+        Check::new(large_first, small_proposal, "refused 2 size at 0"),
+    ]);
+
+    // Point 2 divides 10 by variable 0 within 0..5 into a second variable:
+    // written 2..10, zero possible.
+    let divides = [assign(0, input(0, 5), 1), end(), assign(1, quotient(num(10), v()), 3), end()];
+    let divides = table(&[2, 2], &[0, 2], 0, &divides);
+    for (filed, answer) in [
+        ((2, 10), "accepted 1;node 3 zero"),
+        ((3, 10), "refused 14 write at 2"),
+        ((2, 9), "refused 14 write at 2"),
+    ] {
+        let entries = [([0, 0, 0], (0, 5)), ([1, 0, 1], filed)];
+        let given = proposal(2, &[0; 4], &[], &rows(4, &[(0, 5), (2, 10)]), &entries);
+        cases.push(Check::new(&*divides, given, answer));
+    }
+
+    // v = 0 ? 0 : 10 / v lists zero.
+    let guarded = choice(equal(v(), num(0)), num(0), quotient(num(10), v()));
+    let guarded = table(&[2], &[0], 0, &[assign(0, guarded, 1), end()]);
+    let rows = [vec![(0, 5)], vec![(0, 10)]];
+    let given = proposal(1, &[0, 0], &[], &rows, &[([0, 0, 0], (0, 10))]);
+    cases.push(Check::new(guarded, given, "accepted 1;node 6 zero"));
+
+    // Lock 0, lock 1, unlock 0, write: held set 2 at the write.
+    let nested = [lock(0, 1), lock(1, 2), unlock(0, 3), assign(0, num(5), 4), end()];
+    let nested = table(&[5], &[0], 2, &nested);
+    let rows = [vec![vec![(0, 0)]; 4], vec![vec![(5, 5)]]].concat();
+    let held: [([i32; 5], &[i32], &str); 5] = [
+        ([0, 1, 3, 2, 2], &[2], "accepted 0"),
+        ([0, 1, 3, 2, 2], &[3], "refused 14 write at 3"),
+        ([0, 1, 3, 2, 2], &[0, 1, 3], "refused 14 write at 3"),
+        ([0, 1, 3, 3, 3], &[3], "refused 12 locks at 2"),
+        ([0, 1, 2, 0, 0], &[2], "refused 12 locks at 1"),
+    ];
+    for (held, under, answer) in held {
+        let entries: Vec<Entry> = under.iter().map(|&set| ([0, set, 0], (5, 5))).collect();
+        let given = proposal(1, &held, &[vec![(0, 5)], vec![(0, 0)]], &rows, &entries);
+        cases.push(Check::new(&*nested, given, answer));
+    }
+}
+
+fn errors_of_the_trade(cases: &mut Vec<Check>) {
+    // Filing a write under a lock already given back.
+    let given_back = [lock(0, 1), unlock(0, 2), assign(0, num(5), 3), end()];
+    let given_back = table(&[4], &[0], 1, &given_back);
+    for (under, answer) in [(0, "accepted 0"), (1, "refused 14 write at 2")] {
+        let entries = [([0, under, 0], (5, 5))];
+        let rests = rows(1, &[(0, 5)]);
+        let given = proposal(1, &[0, 1, 0, 0], &rests, &rows(4, &[(0, 5)]), &entries);
+        cases.push(Check::new(&*given_back, given, answer));
+    }
+
+    // Forgetting a task's point because that task is waiting: task 0 is at its
+    // lock while task 1 writes.
+    let waiting = table(&[2, 2], &[0], 1, &[lock(0, 1), end(), assign(0, num(5), 3), end()]);
+    for (row, answer) in [
+        ((0, 5), "accepted 0"),
+        ((0, 0), "refused 15 disturb at 0"),
+        ((0, 4), "refused 15 disturb at 0"),
+    ] {
+        let all = [vec![vec![row]], rows(3, &[(0, 5)])].concat();
+        let entries = [([1, 0, 0], (5, 5))];
+        let given = proposal(1, &[0, 1, 0, 0], &rows(1, &[(0, 5)]), &all, &entries);
+        cases.push(Check::new(&*waiting, given, answer));
+    }
+
+    // Using the rest row at unlock in place of checking it.
+    let unlocks = table(&[4], &[0], 1, &[lock(0, 1), assign(0, num(7), 2), unlock(0, 3), end()]);
+    for (rest, after, answer) in [
+        ((0, 7), (7, 7), "accepted 0"),
+        ((0, 6), (7, 7), "refused 16 rest at 2"),
+        ((0, 0), (7, 7), "refused 16 rest at 2"),
+        ((0, 6), (0, 6), "refused 13 flow at 2"),
+    ] {
+        let all = [vec![(0, 7)], vec![(0, 7)], vec![(7, 7)], vec![after]];
+        let entries = [([0, 1, 0], (7, 7))];
+        let given = proposal(1, &[0, 1, 1, 0], &[vec![rest]], &all, &entries);
+        cases.push(Check::new(&*unlocks, given, answer));
+    }
+
+    // Treating an unreached point's row as a fact: nothing goes to point 1.
+    let never = table(&[2], &[0], 0, &[end(), assign(0, quotient(num(9), v()), 0)]);
+    let filed: &[Entry] = &[([0, 0, 0], (-9, 9))];
+    for (held, row, after, entries, answer) in [
+        (-1, (-1, 4), (0, 0), &[][..], "accepted 0"),
+        (-1, FULL, (0, 0), &[], "accepted 0"),
+        (-1, (-1, 4), (-9, 9), &[], "accepted 0"),
+        (0, (-1, 4), (0, 0), &[], "refused 13 flow at 1"),
+        (0, (-1, 4), (-9, 9), &[], "refused 14 write at 1"),
+        (0, (-1, 4), (-9, 9), filed, "accepted 1;node 2 zero"),
+    ] {
+        let given = proposal(1, &[0, held], &[], &[vec![after], vec![row]], entries);
+        cases.push(Check::new(&*never, given, answer));
+    }
+
+    // Rounding -7 / 2 down to -4.
+    let rounds = table(&[2], &[0], 0, &[assign(0, quotient(num(-7), num(2)), 1), end()]);
+    for (target, entry, answer) in [
+        (-3, -3, "accepted 0"),
+        (-4, -4, "refused 13 flow at 0"),
+        (-4, -3, "refused 13 flow at 0"),
+        (-3, -4, "refused 14 write at 0"),
+    ] {
+        let all = [vec![(0, 0)], vec![(target, target)]];
+        let given = proposal(1, &[0, 0], &[], &all, &[([0, 0, 0], (entry, entry))]);
+        cases.push(Check::new(&*rounds, given, answer));
+    }
+}
+
+fn outcomes(cases: &mut Vec<Check>) {
+    // Each side of a test whose narrowing leaves a row.
+    let counts = [test(less(v(), num(5)), 1, 2), assign(0, sum(v(), num(1)), 0), end()];
+    let counts = table(&[3], &[0], 0, &counts);
+    for (held, body, after, answer) in [
+        ([0, 0, 0], (0, 4), (5, 5), "accepted 0"),
+        ([0, 0, 0], (0, 3), (5, 5), "refused 13 flow at 0"),
+        ([0, 0, 0], (0, 4), (4, 4), "refused 13 flow at 0"),
+        ([0, -1, 0], (0, 4), (5, 5), "refused 12 locks at 0"),
+        ([0, 0, -1], (0, 4), (5, 5), "refused 12 locks at 0"),
+        ([0, 0, 0], (-1, 4), (5, 5), "refused 14 write at 1"),
+        ([0, 0, 0], (0, 5), (5, 5), "refused 13 flow at 1"),
+    ] {
+        let all = [vec![(0, 5)], vec![body], vec![after]];
+        let given = proposal(1, &held, &[], &all, &[([0, 0, 0], (1, 5))]);
+        cases.push(Check::new(&*counts, given, answer));
+    }
+    let always = table(&[3], &[0], 0, &[test(at_most(num(0), v()), 1, 2), end(), end()]);
+    for (row, answer) in [((0, 5), "accepted 0"), ((-1, 5), "refused 12 locks at 0")] {
+        let all = [vec![row], vec![(0, 5)], vec![(0, 0)]];
+        let given = proposal(1, &[0, 0, -1], &[], &all, &[]);
+        cases.push(Check::new(&*always, given, answer));
+    }
+
+    // The alarms of a test are those of its condition, where it is reached.
+    let tests = [
+        test(less(quotient(num(10), v()), sum(num(MAX), v())), 2, 2),
+        test(less(quotient(num(1), v()), num(0)), 2, 2),
+        end(),
+    ];
+    let tests = table(&[3], &[0], 0, &tests);
+    for (held, answer) in [
+        (-1, "accepted 2;node 2 zero;node 5 overflow"),
+        (0, "accepted 3;node 2 zero;node 5 overflow;node 9 zero"),
+    ] {
+        let all = [vec![(0, 5)], vec![(0, 9)], vec![(0, 9)]];
+        cases.push(Check::new(&*tests, proposal(1, &[0, held, 0], &[], &all, &[]), answer));
+    }
+}
+
+fn no_outcome(cases: &mut Vec<Check>) {
+    // Of a write of none.
+    let by_zero = table(&[2], &[0], 0, &[assign(0, quotient(num(1), num(0)), 1), end()]);
+    let given = proposal(1, &[0, -1], &[], &rows(2, &[(0, 0)]), &[]);
+    cases.push(Check::new(by_zero, given, "accepted 1;node 2 zero"));
+    // Of a lock on a held mutex.
+    let twice = table(&[3], &[0], 1, &[lock(0, 1), lock(0, 2), end()]);
+    let given = proposal(1, &[0, 1, -1], &rows(1, &[(0, 0)]), &rows(3, &[(0, 0)]), &[]);
+    cases.push(Check::new(twice, given, "accepted 0"));
+    // Of an unlock of one that isn't held.
+    let not_held = table(&[2], &[0], 2, &[unlock(1, 1), end()]);
+    let given = proposal(1, &[0, -1], &rows(2, &[(0, 0)]), &rows(2, &[(0, 3)]), &[]);
+    cases.push(Check::new(not_held, given, "accepted 0"));
+    // Of a lock whose row doesn't meet the rest row.
+    let apart = [test(less(num(4), v()), 1, 2), lock(0, 3), end(), end()];
+    let apart = table(&[4], &[0], 1, &apart);
+    for (rest, answer) in [((0, 4), "accepted 0"), ((0, 5), "refused 12 locks at 1")] {
+        let all = [vec![(0, 9)], vec![(5, 9)], vec![(0, 4)], vec![(0, 0)]];
+        let given = proposal(1, &[0, 0, 0, -1], &[vec![rest]], &all, &[]);
+        cases.push(Check::new(&*apart, given, answer));
+    }
+}
