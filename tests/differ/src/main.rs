@@ -5,8 +5,6 @@
 //! cases` prints those of checks by hand.
 
 mod answers;
-// Whole, though no family has use for all of it yet.
-#[allow(dead_code)]
 mod build;
 mod counts;
 mod families;
