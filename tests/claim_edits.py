@@ -3,9 +3,10 @@
 of a step so that the claim is false, and the proof of `soundness` must be refused at the law and for the fact that the edit names.
 
 `rt must-fail` checks again only the crate that an edit changes. There the code no longer meets the definition, which says nothing of the claim. So
-`rules`, `checker` and `run` are cut down, in a copy, to what the claim is about: their definitions, the types that they declare, and the laws that
-`soundness` rests on. All of that must still be proved; `soundness` alone may be refused. The copy without an edit must be proved."""
-import os, re, shutil, subprocess, sys, tempfile
+`rules`, `checker` and `run` are cut down, in a copy, to what the claim is about: their definitions without the worked examples, the types that they
+declare, and the laws that `soundness` rests on. All of that must still be proved; `soundness` alone may be refused. The copy without an edit must be
+proved."""
+import glob, os, re, shutil, subprocess, sys, tempfile
 from concurrent.futures import ThreadPoolExecutor
 
 HERE = os.path.dirname(os.path.abspath(__file__))
@@ -41,13 +42,16 @@ def laws_used(crates):
 
 
 def cut_down(crates, crate, laws):
-    """Leaves the types that the crate declares, its definitions, and those laws."""
+    """Leaves the types that the crate declares, its definitions but for worked examples, and those laws."""
     source = text_of(crates, crate, "src/lib.rt")
     kept = {"proofs/%s.antt" % name: text_of(crates, crate, "proofs", name + ".antt") for name in laws}
+    kept["specs/Lib.antt"] = text_of(crates, crate, "specs/Lib.antt").replace("pub mod Examples\n", "")
     kept["proofs/Lib.antt"] = "".join("pub mod %s\n" % name for name in sorted(laws))
     kept["src/lib.rt"] = "\n".join(re.findall(r"^use words::\w+;$|^pub (?:struct|enum) \w+ \{.*?^\}$", source, re.M | re.S)) + "\n"
     for folder in "src", "proofs", "must-fail":
         shutil.rmtree(os.path.join(crates, crate, folder), ignore_errors=True)
+    for file in glob.glob(os.path.join(crates, crate, "specs/Examples.antt")):
+        os.remove(file)
     for file, text in kept.items():
         os.makedirs(os.path.dirname(os.path.join(crates, crate, file)), exist_ok=True)
         write(text, crates, crate, file)
