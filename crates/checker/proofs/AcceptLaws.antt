@@ -102,12 +102,18 @@ accepts t w room count e =
       listed = is;
     }
 
--- the words that acceptance leaves at the buffer's front, as many as the count says, are those of the list
+-- the words that a stage that passed leaves at a buffer's front
+passed-front : (s : Stage) (ws buffer : List ℤ) → s ≡ Passed → take (length ws) (bufferBy s ws buffer) ≡ ws
+unfolding bufferBy
+passed-front s ws buffer e = rw e (take-append-seam ws (drop (length ws) buffer))
+
+-- those of acceptance, as many as the count says, are the list's
 pub accepted-buffer : (t w buffer : List ℤ) (count : ℕ) → checkOf t w (length buffer) ≡ Accepted count → take (2 * count) (bufferOf t w buffer) ≡ alarmWords t w
-unfolding checkOf bufferBy bufferOf
+unfolding checkOf bufferOf
 accepted-buffer t w buffer count e =
     let passed = accepted-passed (stagesOf t w (length buffer)) (length (alarmWords t w) / 2) count e .0 in
-    rw (passed, ← accepts t w (length buffer) count e .listed) (take-append-seam (alarmWords t w) (drop (length (alarmWords t w)) buffer))
+    let listed = accepts t w (length buffer) count e .listed in
+    ap (λ (n : ℕ). take n (bufferOf t w buffer)) (sym listed) ∙ passed-front (stagesOf t w (length buffer)) (alarmWords t w) buffer passed
 
 -- ---- a refusal of another number comes from the later rules
 refused-broken : (s : Stage) (n rule p : ℕ) → verdictBy s n ≡ Refused rule p → s ≡ Broken rule p
