@@ -1,4 +1,4 @@
--- What the stages make of the verdict and of the buffer, and what the code has where refusals 1 to 16 passed.
+-- What the stages make of the verdict, of its numbers and of the buffer, and what the code has where refusals 1 to 16 passed.
 -- Assumes nothing.
 use Prim.Native.Nat.{ℕ, _*_, _/_, _<_, _≤_}
 use mathlib.Core.Path.{_≡_, refl}

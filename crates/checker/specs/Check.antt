@@ -1,4 +1,4 @@
--- The verdict of a check and what it leaves in the alarm buffer (document 01, 'Refusals of a check').
+-- The verdict of a check, its numbers, and what it leaves in the alarm buffer (document 01, 'Refusals of a check').
 -- Assumes nothing.
 use Prim.Native.Nat.{ℕ, _/_}
 use mathlib.Core.List.{List}

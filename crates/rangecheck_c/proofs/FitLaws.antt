@@ -1,4 +1,4 @@
--- Every state that a run gives has small numbers: its points are points of the table, and its kinds are 0, 1 or 2.
+-- The last state of a run that isn't refused has small numbers: its points are points of the table, and its kinds are 0, 1 or 2.
 -- Assumes nothing.
 use Prim.Native.Nat.{ℕ, zero, suc, _<_, _≤_}
 use mathlib.Core.Path.{_≡_, refl, sym, ap, _∙_}

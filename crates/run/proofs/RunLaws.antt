@@ -1,5 +1,6 @@
 -- Laws of a run: each step uses a word at least, so that none is left after as many steps as there are words, and past the schedule's end the state
--- stands still. `Reached` is the invariant of the loop that plays a schedule. What `run` gives is the table's stage, and the last state where it passed. What `run` gives is the table's stage, and the last state where that passed.
+-- stands still. `Reached` is the invariant of the loop that plays a schedule. What `run` gives is the table's stage, and the last state where that
+-- passed.
 -- Assumes nothing.
 use Prim.Native.Nat.{ℕ, zero, suc, _+_, _≤_, _<_}
 use mathlib.Core.Path.{_≡_, refl, sym, ap, _∙_}
