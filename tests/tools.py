@@ -102,7 +102,7 @@ BARE = [2, 1, 0, 3, 1, 2, 1, 0, 1, 0, 0, 1, 0, 0, 0, 0, 0, 0, 0, 0, 0, 5, 0, 0]
 BARE_PROPOSAL = [3, 1, 0, 1, 0, 0, 0, 0, 0, 0, 0, 5, 0, 5, 0, 5, 5, 5]
 # the table of three tasks, with its proposal, of which the faults by hand are changes
 [(SOUND, SOUND_PROPOSAL)] = [(t, w) for t, w, answer in BY_HAND if answer == ["accepted 2", "node 5 zero", "node 9 overflow"]]
-CHILDREN = {3: 1, 8: 3, 22: 1, **{kind: 2 for kind in (4, 5, 6, 7, 16, 17, 18, 19, 20, 21)}}
+CHILDREN = {3: 1, 8: 3, 22: 1, **{kind: 2 for kind in (4, 5, 6, 7, 9, 16, 17, 18, 19, 20, 21)}}
 OWN_WORDS = {0: 1, 1: 2, 2: 1}  # of the kinds without children
 
 
@@ -245,7 +245,7 @@ TOLD = {
     (2, 4): ["word 4 of the table, the number of nodes, is 1025; it must lie in 0..1024"],
     (3, 1): ["task 1 has 0 points; it needs one at least"],
     (3, 3): ["the tasks have 4 + 4 + 5 = 13 points, and the table has 12"],
-    (4, 5): ["node 5 is the words 9 3 4 0", "there is no such kind"],
+    (4, 5): ["node 5 is the words 10 3 4 0", "there is no such kind"],
     (5, 7): ["point 7 of task 1 is the words 5 1 5 4", "there is no such kind"],
     (6, 9): ["node 9, which is input(1..2) * MAX, is used 2 times: by point 11, node 11"],
     (7, 3): ["the proposal has 3 words, and its sizes alone are 4"],
@@ -392,7 +392,7 @@ def showing():
 
 # ---- formulas, read back
 class Reader:
-    """Formulas as trees, by the usual rules: * and / before + and -, these before comparisons; both sides of `and` and `or` in brackets if they mix."""
+    """Formulas as trees, by the usual rules: *, / and % before + and -, these before comparisons; both sides of `and` and `or` in brackets if they mix."""
 
     def __init__(self, text):
         self.words = re.findall(r"input\([^)]*\)|[A-Za-z]\w*|\d+|<=|!=|\S", text)
@@ -425,7 +425,7 @@ class Reader:
         return tree
 
     def sums(self):
-        return self.chain(lambda: self.chain(self.negation, {"*": 6, "/": 7}), {"+": 4, "-": 5})
+        return self.chain(lambda: self.chain(self.negation, {"*": 6, "/": 7, "%": 9}), {"+": 4, "-": 5})
 
     def negation(self):
         if self.next() == "-":
@@ -483,8 +483,21 @@ def read_back(text, condition_wanted):
     return tree
 
 
+# kinds over v0, v1 and v2, each from its children's numbers, and how it is written: a remainder is bound as products and quotients are
+REMAINDERS = [
+    ([[9, 1, 2, 0], [5, 0, 3, 0]], "v0 - v1 % v2"), ([[5, 0, 1, 0], [9, 3, 2, 0]], "(v0 - v1) % v2"), ([[9, 0, 1, 0], [7, 3, 2, 0]], "v0 % v1 / v2"),
+    ([[7, 1, 2, 0], [9, 0, 3, 0]], "v0 % (v1 / v2)"), ([[9, 1, 2, 0], [6, 0, 3, 0]], "v0 * (v1 % v2)"), ([[6, 0, 1, 0], [9, 3, 2, 0]], "v0 * v1 % v2"),
+    ([[9, 1, 2, 0], [9, 0, 3, 0]], "v0 % (v1 % v2)"), ([[3, 0, 0, 0], [9, 3, 1, 0], [4, 4, 2, 0]], "-v0 % v1 + v2"), ([[9, 0, 1, 0], [3, 3, 0, 0], [4, 4, 2, 0]], "-(v0 % v1) + v2"),
+]
+
+
 def formulas():
     count = 0
+    for nodes, text in REMAINDERS:
+        nodes = [[2, v, 0, 0] for v in range(3)] + nodes
+        got = of(SHOW.shown, [1, 3, 0, 1, len(nodes), 1, 0, 0, 0, 1, 0, len(nodes) - 1, 0] + sum(nodes, []), [])
+        expect("the formula %s" % text, got[-1], "  0      v0 := %s, on to 0" % text)
+        count += 1
     for t in {tuple(t): None for t, _, answer in DRAWN if (refusal(answer) or (7,))[0] > 6}:
         table = Parts(t)
         got = [line for line in of(SHOW.shown, list(t), []) if re.match(r"  \d+ +\S", line)]
@@ -571,17 +584,17 @@ def sections(name):
 
 
 def tower():
-    for name in ("tower.txt", "wrong.txt"):
+    for name in ("tower.txt", "wrong.txt", "ring.txt"):
         t, w, s = sections(name)
         expect("encode %s" % name, tool("encode", example(name)), (packed([len(t), len(w)], t, w), "", 0))
         expect("encode --run %s" % name, tool("encode", "--run", example(name)), (packed([len(t), len(s)], t, s), "", 0))
         expect("show %s in text and bytes" % name, len(lines("show", example(name))), len(of(SHOW.shown, t, w)))
     table = Parts(sections("tower.txt")[0])
     got = lines("show", example("tower.txt"))
-    point = "  14     drive  0..9   0..9  1..12  83333333..1000000000  MIN..MAX  -25..25  5..60  5..60  offset := offset + input(-1000000000..1000000000), on to 15"
-    alarm = " " * point.index("offset") + "! node 25 overflow: offset + input(-1000000000..1000000000)"
+    point = "  14     drive  0..9   0..9  1..12  83333333..1000000000  MIN..MAX  -11..11  5..60  5..60  offset := offset + input(-1000000000..1000000000), on to 15"
+    alarm = " " * point.index("offset") + "! node 29 overflow: offset + input(-1000000000..1000000000)"
     expect("the alarm under its formula", [below for line, below in zip(got, got[1:]) if line == point], [alarm])
-    expect("alarms in show", [line.strip() for line in got if "!" in line], [alarm.strip(), "! node 36 zero: 60 / doors"])
+    expect("alarms in show", [line.strip() for line in got if "!" in line], [alarm.strip(), "! node 40 zero: 60 / doors"])
     expect("rest rows in show", [line.split()[:4] for line in got if line.startswith(("  shaft", "  drive"))], [["shaft", "0..9", "0..9", "1..12"], ["drive", "0..9", "0..9", "1..12"]])
     expect("entries in show", "  5      ring       shaft+drive  doors 0..12" in got, True)
     drawing = lines("picture", example("tower.txt"))
@@ -589,7 +602,7 @@ def tower():
     expect("the tower's tasks", titles, ["task 0 (lift)", "task 1 (turntable)", "task 2 (ring)", "task 3 (board)"])
     expect("the tower's red points", [p for p, (_, look) in nodes.items() if "red" in look], [14, 24])
     expect("the tower's edges", edges, set(table.edges()))
-    expect("point 8", nodes[8][0][:3], ["8  holds shaft+drive", "door := offset / pitch", "floor 0..9, goal 0..9, doors 1..12,"])
+    expect("point 8", nodes[8][0][:3], ["8  holds shaft+drive", "door := offset % 1000000000 / pitch % doors", "floor 0..9, goal 0..9, doors 1..12,"])
     # the picture that is kept is this one
     with open(example("tower.svg")) as file:
         svg = file.read()

@@ -8,7 +8,7 @@ SIZES = ("tasks", "variables", "mutexes", "points", "nodes")
 LIMITS = ((1, 8), (1, 16), (0, 8), (1, 256), (0, 1024))
 TRADE = "length size share node point use reach match range order start locks flow write disturb rest room".split()
 POINTS = {0: "end", 1: "assign", 2: "test", 3: "lock", 4: "unlock"}
-BINARY = {4: ("+", 5), 5: ("-", 5), 6: ("*", 6), 7: ("/", 6), 16: ("<", 4), 17: ("<=", 4), 18: ("=", 4), 19: ("!=", 4), 20: ("and", 2), 21: ("or", 2)}
+BINARY = {4: ("+", 5), 5: ("-", 5), 6: ("*", 6), 7: ("/", 6), 9: ("%", 6), 16: ("<", 4), 17: ("<=", 4), 18: ("=", 4), 19: ("!=", 4), 20: ("and", 2), 21: ("or", 2)}
 CHILDREN = {3: 1, 8: 3, 22: 1, **{kind: 2 for kind in BINARY}}
 ATOM = 8  # how tightly a formula is bound: from 0, a choice, to 8, a variable
 

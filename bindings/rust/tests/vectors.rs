@@ -7,10 +7,12 @@ fn words(text: &str) -> Vec<i32> {
         .collect()
 }
 
-/// Each line as its three parts.
+/// Each line as its three parts: of the first vectors, and of those given with request 1.
 fn cases(file: &str) -> Vec<[String; 3]> {
-    let path = format!("{}/../../tests/vectors/{file}", env!("CARGO_MANIFEST_DIR"));
-    let text = std::fs::read_to_string(path).unwrap();
+    let folder = concat!(env!("CARGO_MANIFEST_DIR"), "/../../tests/vectors");
+    let text: String = [".", "after-request-1"]
+        .map(|set| std::fs::read_to_string(format!("{folder}/{set}/{file}")).unwrap())
+        .concat();
     let parts = |line: &str| {
         line.split('|')
             .map(|p| p.trim().to_string())

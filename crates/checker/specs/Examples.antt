@@ -19,7 +19,7 @@ use Rattle.words.specs.Words.{numberOf}
 use Rattle.words.specs.First.{unless, orElse, firstBad, allBelow, someBelow}
 use Rattle.words.specs.Stages.{refuse, andThen, bufferBy}
 use Rattle.table.specs.Layout.{sharesOf, startsOf, pointsOf, nodesOf, fourBy, fourOf, firstIn, laterOf, lastIn, firstOf, taskOf}
-use Rattle.table.specs.Decode.{operationOf, comparisonOf, kept, shapeBy, shapeFrom, pointBy, pointFrom}
+use Rattle.table.specs.Decode.{kept, shapeBy, shapeFrom, pointBy, pointFrom}
 use Rattle.table.specs.Tree.{arithBy, condBy, arithF, arithAt, condAt}
 use Rattle.table.specs.Formed.{nodeFieldsOf, pointFieldsOf, fitsOf}
 use Rattle.table.specs.Uses.{refOf, refsBelow, countOf, usesOf}
@@ -153,7 +153,7 @@ unfolding table minZ maxZ min4Z max4Z eqZ onEnds withinOf meetOf joinOf hullOf b
     decideOf compareOf keptOf cutsAt cutsForOf cutsOf
     numberOf unless orElse firstBad allBelow someBelow refuse andThen
     sharesOf startsOf pointsOf nodesOf fourBy fourOf firstIn laterOf lastIn firstOf taskOf
-    operationOf comparisonOf kept shapeBy shapeFrom pointBy pointFrom arithBy condBy arithF arithAt condAt
+    kept shapeBy shapeFrom pointBy pointFrom arithBy condBy arithF arithAt condAt
     nodeFieldsOf pointFieldsOf fitsOf refOf refsBelow countOf usesOf sizesStage partsStage
     rowIf thenRow putOf meetAtOf alarmIf toldOf lists rangeOn alarmsOn carryOf carryBothOf valueOf
     entriesOf intervalsOf headsFrom lowsFrom proposalLength heldWordOf heldOf headsOf headOf lowsOf highsOf rowAt entriesAt entryLow entryHigh

@@ -1,25 +1,28 @@
 -- Arithmetic on intervals holds every exact result that is a word and tells of every other one, and only of those; wider operands give a
--- wider result. All of it rests on two laws of the uncut pair: it holds every exact result, and its ends are exact results.
+-- wider result. All of it rests on three laws of the uncut pair: it holds every exact result, and wider operands give a wider pair, whatever the
+-- operation; and of every operation but the remainder its ends are exact results.
 -- Assumes nothing.
 use mathlib.Core.Path.{_≡_, refl, sym, _∙_}
 use mathlib.Core.Bool.{Bool, true, false, _&&_, _||_, and-false, or-true}
 use mathlib.Core.Logic.{_⊎_, inl, inr, ⊎-elim}
 use lib.IntN.{ℤ, pos, negsuc, negℤ, _+ℤ_, _-ℤ_, _*ℤ_, *ℤ-comm}
-use lib.Signed.{leZ, ltZ, quotZ, _≤ℤ_, _<ℤ_, ≤ℤ-refl}
+use lib.Signed.{leZ, ltZ, quotZ, remZ, _≤ℤ_, _<ℤ_, ≤ℤ-refl}
 use Rattle.interval.specs.Integer.{minZ, maxZ, min4Z, max4Z}
 use Rattle.interval.specs.Interval.{least, greatest, fromTo, Within, Holds}
-use Rattle.interval.specs.Arithmetic.{exact, byZero, isWord, ends, hullOf, corners, belowOf, aboveOf, eitherPartOf, uncutOf, zeroInOf, clampOf, passesOf, computedOf, nothingOf, negateOf, operateOf}
+use Rattle.interval.specs.Arithmetic.{exact, dividesOf, byZero, isWord, ends, hullOf, corners, belowOf, aboveOf, eitherPartOf, largestOf, remaindersOf, uncutOf, zeroInOf, clampOf, passesOf, computedOf, nothingOf, negateOf, operateOf}
 use Rattle.interval.specs.Lattice.{isNoneOf, _⊑_}
-use Rattle.interval.specs.Laws.{Wider, Outside}
+use Rattle.interval.specs.Laws.{Wider, ExactEnds, Outside, Divided}
 use Rattle.interval.specs.declared.Interval.{Interval}
+use Rattle.interval.specs.declared.Interval.the-variants.{Between}
 use Rattle.interval.specs.declared.Operation.{Operation}
-use Rattle.interval.specs.declared.Operation.the-variants.{Sum, Difference, Product, Quotient}
+use Rattle.interval.specs.declared.Operation.the-variants.{Sum, Difference, Product, Quotient, Remainder}
 use Rattle.interval.specs.declared.Computed.{Computed}
 use Rattle.interval.specs.declared.Uncut.{Uncut}
 use Rattle.interval.specs.declared.Uncut.the-variants.{NoPair, Pair}
-use Rattle.interval.proofs.IntegerLaws.{≤-trans, ≤-total, ≤-antisym, add-mono, sub-mono, neg-anti, mul-mono, mul-anti, quot-mono, quot-anti, OneSign, quot-down, quot-up, min-left, min-right, max-left, max-right, min-above, max-below, min-one, max-one, min-mono, max-mono, min-is, max-is, leZ-cases, le-true, le-false, ≤-<-trans, <-≤-trans, lt-true, leZ-no′, ltZ-yes′, is-false, clash, signs, eqZ-yes, eqZ-true, eqZ-no, eqZ-false, above-not-zero, below-not-zero}
-use Rattle.interval.proofs.IntervalLaws.{first, last, test-within, widen, Inside, inside, onEnds-holds, onBoth-holds, onBoth-cases, fromTo-holds}
-use Rattle.interval.proofs.LatticeLaws.{none-within, holds-some, fromTo-mono, onEnds-mono, onBoth-mono}
+use Rattle.interval.proofs.IntegerLaws.{≤-trans, ≤-total, ≤-antisym, add-mono, sub-mono, neg-anti, mul-mono, mul-anti, quot-mono, quot-anti, OneSign, quot-down, quot-up, min-left, min-right, max-left, max-right, min-above, max-below, min-one, max-one, min-mono, max-mono, min-is, max-is, leZ-cases, le-true, le-false, ≤-<-trans, <-≤-trans, lt-true, leZ-no′, ltZ-yes′, is-false, clash, and-left, and-right, signs, eqZ-yes, eqZ-true, eqZ-no, eqZ-false, above-not-zero, below-not-zero}
+use Rattle.interval.proofs.IntervalLaws.{first, last, ordered, test-within, widen, Inside, inside, inside-single, onEnds-holds, onBoth-holds, onBoth-cases, fromTo-holds}
+use Rattle.interval.proofs.LatticeLaws.{none-within, holds-some, within-holds, fromTo-mono, onEnds-mono, onBoth-mono}
+use Rattle.interval.proofs.RemainderLaws.{rem-toward-zero, rem-below, largest-bounds, largest-mono, only-zero, lowest, highest, ends-hold-zero, ends-hold, lowest-mono, highest-mono, remainders-cases}
 
 -- ---- the numbers of a pair, and what holds of its ends
 abbrev pub In : Uncut → ℤ → Type 0
@@ -120,7 +123,25 @@ either-attained P NoPair v p q = q
 either-attained P (Pair a b) NoPair p q = p
 either-attained P (Pair a b) (Pair c d) p q = (min-one P a c (p .0) (q .0), max-one P b d (p .1) (q .1))
 
--- ---- the two laws of the uncut pair
+-- ---- remainders
+remainders-contain : {a b c d x y : ℤ} → Within a b x → Within c d y → (y ≡ pos 0 → ⊥) → In (remaindersOf a b c d) (remZ x y)
+remainders-contain {a} {b} {c} {d} {x} {y} p q n = remainders-cases (λ u. In u (remZ x y)) a b (ordered q)
+    (λ e i. absurd (n (≤-antisym (rw i at (q .high)) (rw e at (q .low)))))
+    (λ _. ends-hold p (rem-toward-zero x y) (rem-below x y n (largest-bounds c d y q)))
+
+-- 0 lies in every pair, so that both ends of one lie in a wider one
+remainders-mono : {a b c d a′ b′ c′ d′ : ℤ} → Inside a b a′ b′ → Inside c d c′ d′ → Ends (In (remaindersOf a′ b′ c′ d′)) (remaindersOf a b c d)
+remainders-mono {a} {b} {c} {d} {a′} {b′} {c′} {d′} i j = remainders-cases (Ends (In (remaindersOf a′ b′ c′ d′))) a b (j .ordered) (λ _ _. tt)
+    (λ z. remainders-cases (λ v. In v (lowest a (largestOf c d)) × In v (highest b (largestOf c d))) a′ b′ (≤-trans (j .low) (≤-trans (j .ordered) (j .high)))
+    (λ e k. let s = inside-single j (e ∙ sym k) in absurd (only-zero (s .0 ∙ e) (s .1 ∙ e) z))
+    (λ z′.
+    let inner = ends-hold-zero a b z in
+    let outer = ends-hold-zero a′ b′ z′ in (
+      record { low = lowest-mono (i .low) (largest-mono j); high = ≤-trans (inner .low) (outer .high) },
+      record { low = ≤-trans (outer .low) (inner .high); high = highest-mono (i .high) (largest-mono j) },
+    )))
+
+-- ---- the three laws of the uncut pair
 -- it holds every exact result
 pub uncut-contains : (op : Operation) {a b c d x y : ℤ} → Within a b x → Within c d y → byZero op y ≡ false → In (uncutOf op a b c d) (exact op x y)
 unfolding uncutOf belowOf aboveOf
@@ -138,14 +159,16 @@ uncut-contains Quotient {a} {b} {c} {d} {x} {y} p q z = either-contains (belowOf
     part : (y ≤ℤ negsuc 0) ⊎ (pos 1 ≤ℤ y) → In (belowOf a b c d) (quotZ x y) ⊎ In (aboveOf a b c d) (quotZ x y)
     part (inl h) = inl (rw (le-true (≤-trans (q .low) h)) (part-contains (inr (min-right d (negsuc 0))) p (record { low = q .low; high = min-above (q .high) h })))
     part (inr h) = inr (rw (le-true (≤-trans h (q .high))) (part-contains (inl (max-right c (pos 1))) p (record { low = max-below (q .low) h; high = q .high })))
+uncut-contains Remainder {x} {y} p q z = remainders-contain p q (eqZ-no y (pos 0) z)
 
--- and its ends are exact results
-pub uncut-attained : (P : ℤ → Type 0) (op : Operation) {a b c d : ℤ} → a ≤ℤ b → c ≤ℤ d → ((x y : ℤ) → Within a b x → Within c d y → byZero op y ≡ false → P (exact op x y)) → Ends P (uncutOf op a b c d)
+-- its ends are exact results, but for the remainder
+pub uncut-attained : (P : ℤ → Type 0) (op : Operation) → ExactEnds op → {a b c d : ℤ} → a ≤ℤ b → c ≤ℤ d → ((x y : ℤ) → Within a b x → Within c d y → byZero op y ≡ false → P (exact op x y)) → Ends P (uncutOf op a b c d)
 unfolding uncutOf belowOf aboveOf
-uncut-attained P Sum h k g = corners-attained P _+ℤ_ h k (λ x y p q. g x y p q refl)
-uncut-attained P Difference h k g = corners-attained P _-ℤ_ h k (λ x y p q. g x y p q refl)
-uncut-attained P Product h k g = corners-attained P _*ℤ_ h k (λ x y p q. g x y p q refl)
-uncut-attained P Quotient {a} {b} {c} {d} h k g = either-attained P (belowOf a b c d) (aboveOf a b c d) below above
+uncut-attained P Sum o h k g = corners-attained P _+ℤ_ h k (λ x y p q. g x y p q refl)
+uncut-attained P Difference o h k g = corners-attained P _-ℤ_ h k (λ x y p q. g x y p q refl)
+uncut-attained P Product o h k g = corners-attained P _*ℤ_ h k (λ x y p q. g x y p q refl)
+uncut-attained P Remainder o h k g = absurd o
+uncut-attained P Quotient o {a} {b} {c} {d} h k g = either-attained P (belowOf a b c d) (aboveOf a b c d) below above
   where
     below : Ends P (belowOf a b c d)
     below = leZ-cases (Ends P) c (negsuc 0) (corners quotZ a b c (minZ d (negsuc 0))) NoPair
@@ -156,6 +179,18 @@ uncut-attained P Quotient {a} {b} {c} {d} h k g = either-attained P (belowOf a b
     above = leZ-cases (Ends P) (pos 1) d (corners quotZ a b (maxZ c (pos 1)) d) NoPair
         (λ l. part-attained P (inl (max-right c (pos 1))) h (record { ordered = max-below k l; low = max-left c (pos 1); high = ≤ℤ-refl d }) g)
         (λ _. tt)
+
+-- and wider operands give a wider pair
+exact-mono : (op : Operation) → ExactEnds op → {a b c d a′ b′ c′ d′ : ℤ} → Inside a b a′ b′ → Inside c d c′ d′ → Ends (In (uncutOf op a′ b′ c′ d′)) (uncutOf op a b c d)
+exact-mono op o {a′} {b′} {c′} {d′} i j = uncut-attained (In (uncutOf op a′ b′ c′ d′)) op o (i .ordered) (j .ordered) (λ x y p q. uncut-contains op (inside i p) (inside j q))
+
+pub uncut-mono : (op : Operation) {a b c d a′ b′ c′ d′ : ℤ} → Inside a b a′ b′ → Inside c d c′ d′ → Ends (In (uncutOf op a′ b′ c′ d′)) (uncutOf op a b c d)
+unfolding uncutOf
+uncut-mono Sum i j = exact-mono Sum tt i j
+uncut-mono Difference i j = exact-mono Difference tt i j
+uncut-mono Product i j = exact-mono Product tt i j
+uncut-mono Quotient i j = exact-mono Quotient tt i j
+uncut-mono Remainder i j = remainders-mono i j
 
 -- ---- the same for a negation
 negation-contains : {a b x : ℤ} → Within a b x → In (ends negℤ a b) (negℤ x)
@@ -172,12 +207,12 @@ ends-negation a b h = pair-is (ends negℤ a b) (negℤ b) (negℤ a) (negation-
 pub corners-sum : (a b c d : ℤ) → a ≤ℤ b → c ≤ℤ d → corners _+ℤ_ a b c d ≡ Pair (a +ℤ c) (b +ℤ d)
 unfolding uncutOf
 corners-sum a b c d h k = pair-is (corners _+ℤ_ a b c d) (a +ℤ c) (b +ℤ d) (uncut-contains Sum (first h) (first k) refl) (uncut-contains Sum (last h) (last k) refl)
-    (uncut-attained (Within (a +ℤ c) (b +ℤ d)) Sum h k (λ x y p q z. record { low = add-mono (p .low) (q .low); high = add-mono (p .high) (q .high) }))
+    (uncut-attained (Within (a +ℤ c) (b +ℤ d)) Sum tt h k (λ x y p q z. record { low = add-mono (p .low) (q .low); high = add-mono (p .high) (q .high) }))
 
 pub corners-difference : (a b c d : ℤ) → a ≤ℤ b → c ≤ℤ d → corners _-ℤ_ a b c d ≡ Pair (a -ℤ d) (b -ℤ c)
 unfolding uncutOf
 corners-difference a b c d h k = pair-is (corners _-ℤ_ a b c d) (a -ℤ d) (b -ℤ c) (uncut-contains Difference (first h) (last k) refl) (uncut-contains Difference (last h) (first k) refl)
-    (uncut-attained (Within (a -ℤ d) (b -ℤ c)) Difference h k (λ x y p q z. record { low = sub-mono (p .low) (q .high); high = sub-mono (p .high) (q .low) }))
+    (uncut-attained (Within (a -ℤ d) (b -ℤ c)) Difference tt h k (λ x y p q z. record { low = sub-mono (p .low) (q .high); high = sub-mono (p .high) (q .low) }))
 
 -- ---- the cut to words
 pub clamp-is : (lo hi : ℤ) → least ≤ℤ lo → hi ≤ℤ greatest → clampOf lo hi ≡ fromTo lo hi
@@ -261,35 +296,57 @@ pub operate-tells : (op : Operation) (r s : Interval) (x y : ℤ) → Holds r x 
 unfolding operateOf
 operate-tells op r s x y h k z = onBoth-holds (λ c. Tells c (exact op x y)) nothingOf _ r s x y h k (λ a b c d p q. computed-tells (uncutOf op a b c d) (zeroInOf op c d) (exact op x y) (uncut-contains op p q z))
 
-pub operate-overflow-only : (op : Operation) (r s : Interval) → operateOf op r s .overflow ≡ true → Outside op r s
+pub operate-overflow-only : (op : Operation) → ExactEnds op → (r s : Interval) → operateOf op r s .overflow ≡ true → Outside op r s
 unfolding operateOf
-operate-overflow-only op r s = onBoth-cases (λ c. c .overflow ≡ true → Outside op r s) nothingOf _ r s (λ e. clash (sym e)) (λ a b c d h k e i.
+operate-overflow-only op o r s = onBoth-cases (λ c. c .overflow ≡ true → Outside op r s) nothingOf _ r s (λ e. clash (sym e)) (λ a b c d h k e i.
     computed-overflow-only (λ z. isWord z ≡ false → Outside op r s) (uncutOf op a b c d) (zeroInOf op c d)
-    (uncut-attained (λ z. isWord z ≡ false → Outside op r s) op h k (λ x y p q z w. record { x = x; y = y; left = rw e p; right = rw i q; divides = z; outside = w }))
+    (uncut-attained (λ z. isWord z ≡ false → Outside op r s) op o h k (λ x y p q z w. record { x = x; y = y; left = rw e p; right = rw i q; divides = z; outside = w }))
     (λ z f. f))
 
--- a divisor that can be 0 is told
+-- a divisor that can be 0 is told, and only such a one
 zero-told : (op : Operation) {c d y : ℤ} → Within c d y → byZero op y ≡ true → zeroInOf op c d ≡ true
-zero-told Sum q z = z
-zero-told Difference q z = z
-zero-told Product q z = z
-zero-told Quotient {c} {d} {y} q z =
-    let w : Within c d (pos 0) = rw (eqZ-yes y (pos 0) z) at q in
-    rw (le-true (w .low), le-true (w .high))
+zero-told op {c} {d} {y} q z =
+    let w : Within c d (pos 0) = rw (eqZ-yes y (pos 0) (and-right (dividesOf op) _ z)) at q in
+    rw (and-left (dividesOf op) _ z, le-true (w .low), le-true (w .high))
+
+zero-only : (op : Operation) (c d : ℤ) → zeroInOf op c d ≡ true → Within c d (pos 0) × (byZero op (pos 0) ≡ true)
+zero-only op c d z = (test-within c d (pos 0) (and-right (dividesOf op) _ z), rw (and-left (dividesOf op) _ z) (eqZ-true {a = pos 0} refl))
 
 zero-mono : (op : Operation) {c d c′ d′ : ℤ} → Inside c d c′ d′ → zeroInOf op c d ≡ true → zeroInOf op c′ d′ ≡ true
-zero-mono Sum i z = z
-zero-mono Difference i z = z
-zero-mono Product i z = z
-zero-mono Quotient {c} {d} i z = zero-told Quotient (inside i (test-within c d (pos 0) z)) (eqZ-true refl)
+zero-mono op {c} {d} i z = let w = zero-only op c d z in zero-told op (inside i (w .0)) (w .1)
 
 pub operate-zero : (op : Operation) (r s : Interval) (x y : ℤ) → Holds r x → Holds s y → byZero op y ≡ true → operateOf op r s .zero ≡ true
 unfolding operateOf
 operate-zero op r s x y h k z = onBoth-holds (λ c. c .zero ≡ true) nothingOf _ r s x y h k (λ a b c d p q. computed-zero (uncutOf op a b c d) (zeroInOf op c d) ∙ zero-told op q z)
 
+pub operate-zero-only : (op : Operation) (r s : Interval) → operateOf op r s .zero ≡ true → Divided op r s
+unfolding operateOf
+operate-zero-only op r s = onBoth-cases (λ c. c .zero ≡ true → Divided op r s) nothingOf _ r s (λ e. clash (sym e)) (λ a b c d h k e i z.
+    let w = zero-only op c d (sym (computed-zero (uncutOf op a b c d) (zeroInOf op c d)) ∙ z) in
+    record { x = a; left = rw e (first h); right = rw i (w .0); divides = w .1 })
+
 pub operate-mono : (op : Operation) (r r′ s s′ : Interval) → r ⊑ r′ → s ⊑ s′ → Wider (operateOf op r s) (operateOf op r′ s′)
 unfolding operateOf
 operate-mono op r r′ s s′ h k = onBoth-mono Wider nothingOf nothing-least _ r r′ s s′ h k (λ a b c d a′ b′ c′ d′ i j.
     computed-mono (uncutOf op a b c d) (uncutOf op a′ b′ c′ d′) (zeroInOf op c d) (zeroInOf op c′ d′)
-    (uncut-attained (In (uncutOf op a′ b′ c′ d′)) op (i .ordered) (j .ordered) (λ x y p q. uncut-contains op (inside i p) (inside j q)))
+    (uncut-mono op i j)
     (zero-mono op j))
+
+-- ---- the ends of a remainder of words are words, so it passes neither MIN nor MAX
+remainders-fit : {a b c d : ℤ} → Inside a b least greatest → c ≤ℤ d → Ends (λ z. isWord z ≡ true) (remaindersOf a b c d)
+remainders-fit {a} {b} {c} {d} i k = remainders-cases (Ends (λ z. isWord z ≡ true)) a b k (λ _ _. tt) (λ z.
+    let zero = ends-hold-zero a b z in (
+      fits (record { low = ≤-trans (min-above (i .low) (record { le = tt })) (max-left (minZ a (pos 0)) _); high = ≤-trans (zero .low) (record { le = tt }) }),
+      fits (record { low = ≤-trans (record { le = tt }) (zero .high); high = ≤-trans (min-left (maxZ b (pos 0)) _) (max-below (i .high) (record { le = tt })) }),
+    ))
+  where
+    fits : {z : ℤ} → Within least greatest z → isWord z ≡ true
+    fits p = rw (le-true (p .low), le-true (p .high))
+
+pub remainder-no-overflow : (r s : Interval) → r ⊑ Between least greatest → operateOf Remainder r s .overflow ≡ false
+unfolding operateOf uncutOf
+remainder-no-overflow r s w = onBoth-cases (λ c. c .overflow ≡ false) nothingOf _ r s refl (λ a b c d h k e i.
+    is-false _ (computed-overflow-only (λ z. isWord z ≡ true) (remaindersOf a b c d) (zeroInOf Remainder c d) (remainders-fit (words a b h e) k) (λ z p q. clash (sym p ∙ q))))
+  where
+    words : (a b : ℤ) → a ≤ℤ b → r ≡ Between a b → Inside a b least greatest
+    words a b h e = record { ordered = h; low = within-holds r (Between least greatest) w a (rw e (first h)) .low; high = within-holds r (Between least greatest) w b (rw e (last h)) .high }

@@ -163,11 +163,11 @@ pub <-≤-trans : {a b c : ℤ} → a <ℤ b → b ≤ℤ c → a <ℤ c
 <-≤-trans {a} {b} {c} h k = nat-lt a c (omega ints)
 
 -- ---- products. A factor that is not negative keeps the order, and one that is not positive turns it round
-neg-pos : (a b : ℕ) → negℤ (pos a) ≤ℤ pos b
+pub neg-pos : (a b : ℕ) → negℤ (pos a) ≤ℤ pos b
 neg-pos zero b = record { le = le→leb 0 b zero-le }
 neg-pos (suc a) b = record { le = tt }
 
-neg-neg : {a b : ℕ} → b ≤ a → negℤ (pos a) ≤ℤ negℤ (pos b)
+pub neg-neg : {a b : ℕ} → b ≤ a → negℤ (pos a) ≤ℤ negℤ (pos b)
 neg-neg {a} {b} h = neg-anti {a = pos b} {b = pos a} (record { le = le→leb b a h })
 
 mul-pos : (n : ℕ) (a b : ℤ) → a ≤ℤ b → (a *ℤ pos n) ≤ℤ (b *ℤ pos n)
@@ -261,13 +261,20 @@ quot-up a m n (inl z) h = above-up a m n z h
 quot-up a m n (inr z) h = below-by′ (negsuc a) m n h z (above-up a (negℤ n) (negℤ m) (neg-anti z) (neg-anti h))
 
 -- ---- the least and the greatest of two
--- the cases of a test of order
+-- the cases of the tests of order
 pub leZ-cases : {X : Type 0} (P : X → Type 0) (a b : ℤ) (x y : X) → (a ≤ℤ b → P x) → (b <ℤ a → P y) → P (cond (leZ a b) x y)
 leZ-cases {X} P a b x y f g = by (leZ a b) (λ t. f (record { le = t })) (λ t. g (nle a b t))
   where
     by : (t : Bool) → (T t → P x) → (T (not t) → P y) → P (cond t x y)
     by true f g = f tt
     by false f g = g tt
+
+pub ltZ-cases : {X : Type 0} (P : X → Type 0) (a b : ℤ) (x y : X) → (a <ℤ b → P x) → (b ≤ℤ a → P y) → P (cond (ltZ a b) x y)
+ltZ-cases {X} P a b x y f g = by (ltZ a b) (λ e. f (ltZ-yes′ a b e)) (λ e. g (ltZ-no′ a b e))
+  where
+    by : (t : Bool) → (t ≡ true → P x) → (t ≡ false → P y) → P (cond t x y)
+    by true f g = f refl
+    by false f g = g refl
 
 pub ≤-total : (a b : ℤ) → (a ≤ℤ b) ⊎ (b ≤ℤ a)
 ≤-total a b = by (leZ a b) (λ t. record { le = t }) (λ t. lt-le (nle a b t))
@@ -311,8 +318,6 @@ pub signs : (z : ℤ) → (z ≡ pos 0 → ⊥) → (z ≤ℤ negsuc 0) ⊎ (pos
 signs (pos zero) h = absurd (h refl)
 signs (pos (suc n)) h = inr (record { le = le→leb 1 (suc n) (suc-le-suc zero-le) })
 signs (negsuc n) h = inl (record { le = le→leb 0 n zero-le })
-
--- ---- the lesser of two, from a test `b < a`
 
 -- ---- the test of equality
 pub clash : {X : Type 0} → true ≡ false → X

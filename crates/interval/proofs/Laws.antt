@@ -4,7 +4,8 @@ use lib.IntN.{negℤ}
 use Rattle.interval.specs.Arithmetic.{exact, negateOf, operateOf}
 use Rattle.interval.specs.Laws.{Laws}
 use Rattle.interval.proofs.LatticeLaws.{meet-contains, meet-within-left, meet-within-right, meet-mono, join-contains-left, join-contains-right, join-within, join-mono, within-holds, holds-within, within-refl, within-trans}
-use Rattle.interval.proofs.ArithmeticLaws.{tells-some, negate-tells, negate-mono, operate-tells, operate-zero, operate-overflow-only, operate-mono}
+use Rattle.interval.proofs.ArithmeticLaws.{tells-some, negate-tells, negate-mono, operate-tells, operate-zero, operate-zero-only, operate-overflow-only, remainder-no-overflow, operate-mono}
+use Rattle.interval.proofs.RemainderLaws.{largest-bounds, largest-attained}
 use Rattle.interval.proofs.CompareLaws.{compare-allows, both-allows, either-allows, opposite-allows, compare-mono, both-mono, either-mono, opposite-mono}
 use Rattle.interval.proofs.NarrowLaws.{cuts-keep, cuts-within, cuts-mono}
 
@@ -20,8 +21,10 @@ proved = record {
     operate-overflow = λ op r s x y h k z. operate-tells op r s x y h k z .overflow;
     operate-zero = operate-zero;
     operate-some = λ op r s x y h k z. tells-some (operateOf op r s) (exact op x y) (operate-tells op r s x y h k z);
+    operate-zero-only = operate-zero-only;
     operate-overflow-only = operate-overflow-only;
   };
+  remainders = record { largest-bounds = largest-bounds; largest-attained = largest-attained; remainder-no-overflow = remainder-no-overflow };
   decisions = record { compare-allows = compare-allows; both-allows = both-allows; either-allows = either-allows; opposite-allows = opposite-allows };
   narrowing = record {
     cuts-contains-left = λ k r s x y h i. cuts-keep k r s x y h i .left;

@@ -1,6 +1,7 @@
 pub mod IntegerLaws
 pub mod IntervalLaws
 pub mod LatticeLaws
+pub mod RemainderLaws
 pub mod ArithmeticLaws
 pub mod CompareLaws
 pub mod NarrowLaws

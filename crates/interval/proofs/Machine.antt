@@ -4,13 +4,14 @@ use Prim.Native.Nat.{ℕ, zero, suc, _*_, _-_, _/_, _^_, _<_, _≤_}
 use mathlib.Core.Path.{_≡_, refl, sym, ap, _∙_}
 use mathlib.Core.Bool.{Bool, true, false, not, cond}
 use native.Mathlib.Omega.{arith}
-use native.Mathlib.Nat.{mul-le-mul, div-le-self, zero-lt-suc}
+use native.Mathlib.Nat.{mul-le-mul, div-le-self, div-zero, mod-zero, zero-lt-suc, lt-of-le-of-lt}
 use lib.Dec.{T, ltb, eqb, ltb→lt, nltb→le, leb→le}
-use lib.IntN.{ℤ, pos, negsuc, negℤ, subℕ, _+ℤ_, _-ℤ_, _*ℤ_, +ℤ-idl}
-use lib.Signed.{mag, leZ, quotZ, _≤ℤ_}
+use lib.IntN.{ℤ, pos, negsuc, negℤ, natAbs, subℕ, _+ℤ_, _-ℤ_, _*ℤ_, +ℤ-idl}
+use lib.Signed.{mag, leZ, quotZ, remZ, mag-rem, _≤ℤ_, _<ℤ_}
 use Rattle.interval.specs.Interval.{least, greatest}
 use Rattle.interval.specs.Integer.{minZ, maxZ, eqZ}
-use Rattle.interval.proofs.IntegerLaws.{up, dn, leZ-cases, leZ-yes′, ≤-trans, max-right, min-right, eqZ-yes, eqZ-true}
+use Rattle.interval.specs.Arithmetic.{magnitude}
+use Rattle.interval.proofs.IntegerLaws.{ints, up, dn, lt-nat, nat-le, difference-nat, leZ-cases, leZ-yes′, ≤-trans, max-right, min-right, eqZ-yes, eqZ-true}
 use mir.Syntax.{Width, w32, w64}
 use mir.Val.{SFits, hbits, toZ, ofZ}
 use mir.Facts.{toZ-ofZ, sfits-widen}
@@ -76,11 +77,31 @@ mag-quot (negsuc a) (negsuc b) p = omega (arith, div-le-self (suc a) (suc b))
 pub quotient-fits : (a b : ℤ) → SFits w32 a → SFits w64 (quotZ a b)
 quotient-fits a b p = record { sfits = mag-quot a b (p .sfits) }
 
+pub remainder-fits : (a b : ℤ) → SFits w32 a → SFits w64 (remZ a b)
+remainder-fits a b p = record { sfits = lt-of-le-of-lt (mag-rem a b) (widens p .sfits) }
+
 -- a divisor that is not 0 has bits that are not 0
 pub divisor-bits : (z : ℤ) → SFits w64 z → (z ≡ pos 0 → ⊥) → 0 < ofZ w64 z
 divisor-bits (pos zero) f h = absurd (h refl)
 divisor-bits (pos (suc n)) f h = zero-lt-suc n
 divisor-bits (negsuc n) f h = let k : n < 9223372036854775808 = f .sfits in omega arith
+
+-- what a division of two i32 in 64 bits asks, where the divisor's bits are not 0
+abbrev wide : ℤ → ℕ
+wide z = ofZ w64 (toZ w32 (ofZ w32 z))
+
+pub division-fits : {a b : ℤ} → SFits w32 a → SFits w32 b → (ofZ w32 b ≡ 0 → ⊥) → (0 < wide b) × SFits w64 (quotZ (toZ w64 (wide a)) (toZ w64 (wide b)))
+division-fits {a} {b} f g n =
+    rw (toZ-ofZ f, toZ-ofZ g, toZ-ofZ (widens f), toZ-ofZ (widens g)) (divisor-bits b (widens g) (λ e. n (ap (ofZ w32) e)), quotient-fits a b f)
+
+-- and what the definitions say of a divisor that is 0
+pub quot-zero : (a : ℤ) → quotZ a (pos 0) ≡ pos 0
+quot-zero (pos a) = ap pos (div-zero a)
+quot-zero (negsuc a) = ap (λ n. negℤ (pos n)) (div-zero (suc a))
+
+pub rem-zero : (a : ℤ) → remZ a (pos 0) ≡ a
+rem-zero (pos a) = ap pos (mod-zero a)
+rem-zero (negsuc a) = ap (λ n. negℤ (pos n)) (mod-zero (suc a))
 
 -- what lies from the least to the greatest i32 fits it
 pub fits32 : (z : ℤ) → least ≤ℤ z → z ≤ℤ greatest → SFits w32 z
@@ -95,7 +116,7 @@ pub max-fits : (w : Width) (a b : ℤ) → SFits w a → SFits w b → SFits w (
 unfolding maxZ
 max-fits w a b f g = leZ-cases (SFits w) a b b a (λ h. g) (λ h. f)
 
-pub ruleset signed = (needs, widens, sum-fits, difference-fits, product-fits, negation-fits, quotient-fits, min-fits, max-fits, divisor-bits, +ℤ-idl)
+pub ruleset signed = (needs, widens, sum-fits, difference-fits, product-fits, negation-fits, quotient-fits, remainder-fits, min-fits, max-fits, divisor-bits, +ℤ-idl)
 
 -- what a test of two i32 says of the numbers
 pub le32 : {a b : ℤ} {t : Bool} → SFits w32 a → SFits w32 b → leZ (toZ w32 (ofZ w32 a)) (toZ w32 (ofZ w32 b)) ≡ t → leZ a b ≡ t
@@ -153,3 +174,21 @@ cut-fits lo hi {l} {h} p q t =
 pub fits32-nat : {z : ℤ} → SFits w32 z → (up z < 2147483648) × (dn z ≤ 2147483648)
 fits32-nat {z = pos n} f = let k : n < 2147483648 = f .sfits in (k, omega arith)
 fits32-nat {z = negsuc n} f = let k : n < 2147483648 = f .sfits in (omega arith, k)
+
+-- ---- a word's magnitude, less 1: how it is had from a negative word and from another, and that it fits
+pub one-less-negative : (z : ℤ) → z <ℤ pos 0 → negsuc 0 -ℤ z ≡ magnitude z -ℤ pos 1
+one-less-negative (pos n) h = absurd (omega (ints, lt-nat h))
+one-less-negative (negsuc n) h = refl
+
+pub one-less-other : (z : ℤ) → pos 0 ≤ℤ z → z -ℤ pos 1 ≡ magnitude z -ℤ pos 1
+one-less-other (pos n) h = refl
+one-less-other (negsuc n) h = absurd (h .le)
+
+abs-bound : {z : ℤ} → SFits w32 z → natAbs z ≤ 2147483648
+abs-bound {z = pos n} f = let k : n < 2147483648 = f .sfits in omega arith
+abs-bound {z = negsuc n} f = f .sfits
+
+pub one-less-fits : {z : ℤ} → SFits w32 z → SFits w32 (magnitude z -ℤ pos 1)
+one-less-fits {z} f = fits32 (magnitude z -ℤ pos 1)
+    (nat-le _ _ (omega (ints, difference-nat (magnitude z) (pos 1))))
+    (nat-le _ _ (omega (ints, difference-nat (magnitude z) (pos 1), abs-bound f)))

@@ -3,14 +3,18 @@
 -- Assumes nothing.
 use mathlib.Core.Path.{_≡_}
 use mathlib.Core.Bool.{Bool, true, false, not, _&&_, _||_}
-use lib.IntN.{ℤ, negℤ}
-use Rattle.interval.specs.Interval.{Holds}
+use mathlib.Core.Logic.{_⊎_}
+use lib.IntN.{ℤ, pos, negℤ, _+ℤ_}
+use lib.Signed.{_≤ℤ_}
+use Rattle.interval.specs.Interval.{least, greatest, Within, Holds}
 use Rattle.interval.specs.Lattice.{isNoneOf, _⊑_, meetOf, joinOf}
-use Rattle.interval.specs.Arithmetic.{exact, byZero, isWord, negateOf, operateOf}
+use Rattle.interval.specs.Arithmetic.{exact, byZero, isWord, magnitude, largestOf, negateOf, operateOf}
 use Rattle.interval.specs.Compare.{test, allows, bothOf, eitherOf, oppositeOf, compareOf}
 use Rattle.interval.specs.Narrow.{cutsOf}
 use Rattle.interval.specs.declared.Interval.{Interval}
+use Rattle.interval.specs.declared.Interval.the-variants.{Between}
 use Rattle.interval.specs.declared.Operation.{Operation}
+use Rattle.interval.specs.declared.Operation.the-variants.{Sum, Difference, Product, Quotient, Remainder}
 use Rattle.interval.specs.declared.Computed.{Computed}
 use Rattle.interval.specs.declared.Comparison.{Comparison}
 use Rattle.interval.specs.declared.Decision.{Decision}
@@ -39,6 +43,14 @@ pub record Negation : Type 0 where
   -- none only where every exact result is outside
   pub negate-some : (r : Interval) (x : ℤ) → Holds r x → isNoneOf (negateOf r .range) ≡ true → isWord (negℤ x) ≡ false
 
+-- the ends of the uncut pair are exact results: of a remainder they need not be, as 5 by 3 gives 0..2
+abbrev pub ExactEnds : Operation → Type 0
+ExactEnds Sum = Unit {0}
+ExactEnds Difference = Unit {0}
+ExactEnds Product = Unit {0}
+ExactEnds Quotient = Unit {0}
+ExactEnds Remainder = ⊥
+
 -- the operands x of r and y of s, whose exact result is no word
 pub record Outside (op : Operation) (r s : Interval) : Type 0 where
   pub x : ℤ
@@ -48,13 +60,29 @@ pub record Outside (op : Operation) (r s : Interval) : Type 0 where
   pub divides : byZero op y ≡ false
   pub outside : isWord (exact op x y) ≡ false
 
+-- an operand x of r, where s holds 0 and the operation divides by it
+pub record Divided (op : Operation) (r s : Interval) : Type 0 where
+  pub x : ℤ
+  pub left : Holds r x
+  pub right : Holds s (pos 0)
+  pub divides : byZero op (pos 0) ≡ true
+
 pub record Operations : Type 0 where
   pub operate-contains : (op : Operation) (r s : Interval) (x y : ℤ) → Holds r x → Holds s y → byZero op y ≡ false → isWord (exact op x y) ≡ true → Holds (operateOf op r s .range) (exact op x y)
   pub operate-overflow : (op : Operation) (r s : Interval) (x y : ℤ) → Holds r x → Holds s y → byZero op y ≡ false → isWord (exact op x y) ≡ false → operateOf op r s .overflow ≡ true
   pub operate-zero : (op : Operation) (r s : Interval) (x y : ℤ) → Holds r x → Holds s y → byZero op y ≡ true → operateOf op r s .zero ≡ true
   pub operate-some : (op : Operation) (r s : Interval) (x y : ℤ) → Holds r x → Holds s y → byZero op y ≡ false → isNoneOf (operateOf op r s .range) ≡ true → isWord (exact op x y) ≡ false
-  -- overflow is told only where some exact result is outside
-  pub operate-overflow-only : (op : Operation) (r s : Interval) → operateOf op r s .overflow ≡ true → Outside op r s
+  -- zero is told only where the divisor's interval holds 0
+  pub operate-zero-only : (op : Operation) (r s : Interval) → operateOf op r s .zero ≡ true → Divided op r s
+  -- overflow is told only where some exact result is outside; of a remainder, never (`remainder-no-overflow`)
+  pub operate-overflow-only : (op : Operation) → ExactEnds op → (r s : Interval) → operateOf op r s .overflow ≡ true → Outside op r s
+
+pub record Remainders : Type 0 where
+  -- D is 'the greatest magnitude in the divisor's interval, less 1': none is greater, and an end has it
+  pub largest-bounds : (c d y : ℤ) → Within c d y → magnitude y ≤ℤ (largestOf c d +ℤ pos 1)
+  pub largest-attained : (c d : ℤ) → (magnitude c ≡ largestOf c d +ℤ pos 1) ⊎ (magnitude d ≡ largestOf c d +ℤ pos 1)
+  -- 'zero is its only alarm': of words, a remainder never overflows
+  pub remainder-no-overflow : (r s : Interval) → r ⊑ Between least greatest → operateOf Remainder r s .overflow ≡ false
 
 -- ---- decisions
 pub record Decisions : Type 0 where
@@ -100,6 +128,7 @@ pub record Monotone : Type 0 where
 pub record Laws : Type 0 where
   pub negation : Negation
   pub operations : Operations
+  pub remainders : Remainders
   pub decisions : Decisions
   pub narrowing : Narrowing
   pub lattice : Lattice

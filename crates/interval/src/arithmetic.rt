@@ -1,4 +1,4 @@
-// Negation, sum, difference, product and quotient of intervals: exact in 64 bits, then cut to words.
+// Negation, sum, difference, product, quotient and remainder of intervals: exact in 64 bits, then cut to words.
 use crate::Computed;
 use crate::Interval;
 use crate::Operation;
@@ -13,13 +13,15 @@ use crate::integer::minus;
 use crate::integer::negative;
 use crate::integer::over;
 use crate::integer::plus;
+use crate::integer::same;
 use crate::integer::times;
+use crate::integer::widen;
 use crate::lattice::taken;
 ghost use mathlib.Core.Path.{_≡_};
-ghost use lib.IntN.{pos};
+ghost use lib.IntN.{pos, _-ℤ_};
 ghost use lib.Signed.{quotZ, _≤ℤ_};
-ghost use Rattle.interval.specs.Arithmetic.{corners, hullOf, belowOf, aboveOf, eitherPartOf, uncutOf, zeroInOf, clampOf, passesOf, computedOf, nothingOf, negateOf, operateOf};
-ghost use Rattle.interval.specs.declared.Operation.the-variants.{Sum, Difference, Product, Quotient};
+ghost use Rattle.interval.specs.Arithmetic.{dividesOf, corners, hullOf, belowOf, aboveOf, eitherPartOf, magnitude, largestOf, remainderLowOf, remainderHighOf, remaindersOf, uncutOf, zeroInOf, clampOf, passesOf, computedOf, nothingOf, negateOf, operateOf};
+ghost use Rattle.interval.specs.declared.Operation.the-variants.{Sum, Difference, Product, Quotient, Remainder};
 
 // The words from lo to hi.
 pub fn clamp(lo: i64, hi: i64) -> Interval
@@ -75,10 +77,8 @@ fn hull(p: i64, q: i64, r: i64, s: i64) -> Uncut
     Uncut::Pair(min4(p, q, r, s), max4(p, q, r, s))
 }
 
-// The quotients at the ends, of a divisor that is not 0 at either.
+// The quotients at the ends.
 fn quotients(a: i32, b: i32, c: i32, d: i32) -> Uncut
-    requires { ⌜ (c ≡ pos 0 → ⊥) ⌝ }
-    requires { ⌜ (d ≡ pos 0 → ⊥) ⌝ }
     ensures { λ r. ⌜ r ≡ corners quotZ a b c d ⌝ }
 {
     hull(over(a, c), over(a, d), over(b, c), over(b, d))
@@ -118,6 +118,51 @@ fn either_part(u: Uncut, v: Uncut) -> Uncut
     }
 }
 
+// The magnitude of z, less 1, which is a word also for MIN.
+fn one_less(z: i32) -> i32
+    ensures { λ r. ⌜ r ≡ magnitude z -ℤ pos 1 ⌝ }
+{
+    if z < 0 { -1 - z } else { z - 1 }
+}
+
+// The greatest magnitude of the divisors c..d, less 1: no remainder has a greater one.
+fn largest(c: i32, d: i32) -> i32
+    ensures { λ r. ⌜ r ≡ largestOf c d ⌝ }
+{
+    max32(one_less(c), one_less(d))
+}
+
+fn remainder_low(a: i32, most: i32) -> i64
+    ensures { λ r. ⌜ r ≡ remainderLowOf a most ⌝ }
+{
+    if a < 0 {
+        max64(widen(a), negative(most))
+    } else {
+        0
+    }
+}
+
+fn remainder_high(b: i32, most: i32) -> i64
+    ensures { λ r. ⌜ r ≡ remainderHighOf b most ⌝ }
+{
+    if 0 < b {
+        min64(widen(b), widen(most))
+    } else {
+        0
+    }
+}
+
+// Bounds of the remainders by c..d; none where that is only 0.
+fn remainders(a: i32, b: i32, c: i32, d: i32) -> Uncut
+    ensures { λ r. ⌜ r ≡ remaindersOf a b c d ⌝ }
+{
+    if same(c, 0) & same(d, 0) {
+        return Uncut::NoPair;
+    }
+    let most = largest(c, d);
+    Uncut::Pair(remainder_low(a, most), remainder_high(b, most))
+}
+
 // The uncut pair of a..b and c..d. A sum and a difference need two of the four corners.
 fn uncut(op: Operation, a: i32, b: i32, c: i32, d: i32) -> Uncut
     requires { ⌜ a ≤ℤ b ⌝ }
@@ -129,6 +174,19 @@ fn uncut(op: Operation, a: i32, b: i32, c: i32, d: i32) -> Uncut
         Operation::Difference => Uncut::Pair(minus(a, d), minus(b, c)),
         Operation::Product => hull(times(a, c), times(a, d), times(b, c), times(b, d)),
         Operation::Quotient => either_part(below(a, b, c, d), above(a, b, c, d)),
+        Operation::Remainder => remainders(a, b, c, d),
+    }
+}
+
+fn divides(op: Operation) -> bool
+    ensures { λ r. ⌜ r ≡ dividesOf op ⌝ }
+{
+    match op {
+        Operation::Sum => false,
+        Operation::Difference => false,
+        Operation::Product => false,
+        Operation::Quotient => true,
+        Operation::Remainder => true,
     }
 }
 
@@ -136,12 +194,7 @@ fn uncut(op: Operation, a: i32, b: i32, c: i32, d: i32) -> Uncut
 fn zero_in(op: Operation, c: i32, d: i32) -> bool
     ensures { λ r. ⌜ r ≡ zeroInOf op c d ⌝ }
 {
-    match op {
-        Operation::Sum => false,
-        Operation::Difference => false,
-        Operation::Product => false,
-        Operation::Quotient => (c <= 0) & (0 <= d),
-    }
+    divides(op) & ((c <= 0) & (0 <= d))
 }
 
 // The negation of x. None gives none and no alarm.
@@ -190,4 +243,11 @@ pub fn quotient(x: Interval, y: Interval) -> Computed
     ensures { λ r. ⌜ r ≡ operateOf Quotient x y ⌝ }
 {
     operate(Operation::Quotient, x, y)
+}
+
+// With the dividend's sign.
+pub fn remainder(x: Interval, y: Interval) -> Computed
+    ensures { λ r. ⌜ r ≡ operateOf Remainder x y ⌝ }
+{
+    operate(Operation::Remainder, x, y)
 }

@@ -1,7 +1,7 @@
-// Exact arithmetic of words in 64 bits, where no sum, product or quotient of two words overflows.
+// Exact arithmetic of words in 64 bits, where no sum, product, quotient or remainder of two words overflows.
 ghost use mathlib.Core.Path.{_≡_};
-ghost use lib.IntN.{ℤ, pos, _+ℤ_, _-ℤ_, _*ℤ_, negℤ};
-ghost use lib.Signed.{quotZ};
+ghost use lib.IntN.{ℤ, _+ℤ_, _-ℤ_, _*ℤ_, negℤ};
+ghost use lib.Signed.{quotZ, remZ};
 ghost use Rattle.interval.specs.Integer.{minZ, maxZ, min4Z, max4Z, eqZ};
 
 pub fn widen(a: i32) -> i64
@@ -76,10 +76,20 @@ pub fn times(a: i32, b: i32) -> i64
     a as i64 * b as i64
 }
 
-// Cut towards zero.
-pub(crate) fn over(a: i32, b: i32) -> i64
-    requires { ⌜ (b ≡ pos 0 → ⊥) ⌝ }
+// Cut towards zero. By 0 it is 0.
+pub fn over(a: i32, b: i32) -> i64
     ensures { λ r. ⌜ r ≡ quotZ a b ⌝ }
 {
-    a as i64 / b as i64
+    if b == 0 { 0 } else { a as i64 / b as i64 }
+}
+
+// The remainder, with the sign of a. By 0 it is a.
+pub fn rem(a: i32, b: i32) -> i64
+    ensures { λ r. ⌜ r ≡ remZ a b ⌝ }
+{
+    if b == 0 {
+        widen(a)
+    } else {
+        a as i64 % b as i64
+    }
 }

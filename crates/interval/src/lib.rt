@@ -21,6 +21,7 @@ pub enum Operation {
     Difference,
     Product,
     Quotient,
+    Remainder,
 }
 
 // What an operation gives: the interval of its results, and whether overflow and a zero divisor are possible.
@@ -30,7 +31,7 @@ pub struct Computed {
     pub zero: bool,
 }
 
-// The least and the greatest exact result, before the cut to words. Without one: a quotient whose divisor is only 0.
+// The least and the greatest result, before the cut to words. Without one: a division by only 0.
 pub enum Uncut {
     NoPair,
     Pair(i64, i64),

@@ -5,6 +5,7 @@ use crate::exact::minus;
 use crate::exact::negative;
 use crate::exact::over;
 use crate::exact::plus;
+use crate::exact::rem;
 use crate::exact::times;
 use crate::exact::wide;
 use crate::hull::Hull;
@@ -15,11 +16,14 @@ use interval::Comparison;
 use interval::Operation;
 ghost use Prim.Native.Nat.{_≤_};
 
-// What is asked of a pair of values x and y. The first three look at y alone.
+// What is asked of a pair of values x and y. The first five look at y alone.
 pub enum Ask {
     Value,
     Negation,
     Zero,
+    // how far a remainder by y can lie below 0, and above it
+    Lowest,
+    Highest,
     Result(Operation),
     Truth(Comparison),
     // x, and y, where the comparison has the truth wanted
@@ -27,8 +31,18 @@ pub enum Ask {
     Right(Comparison, bool),
 }
 
-fn quotient(h: Hull, x: i32, y: i32) -> Hull {
-    if y == 0 { h } else { h.add(over(x, y)) }
+// Adds the result z of a division by y.
+fn divided(h: Hull, y: i32, z: i64) -> Hull {
+    if y == 0 { h } else { h.add(z) }
+}
+
+// 1 less the magnitude of y, and the magnitude less 1.
+fn lowest(y: i32) -> i64 {
+    if y < 0 { plus(y, 1) } else { minus(1, y) }
+}
+
+fn highest(y: i32) -> i64 {
+    if y < 0 { minus(-1, y) } else { minus(y, 1) }
 }
 
 fn result(op: Operation, h: Hull, x: i32, y: i32) -> Hull {
@@ -36,7 +50,8 @@ fn result(op: Operation, h: Hull, x: i32, y: i32) -> Hull {
         Operation::Sum => h.add(plus(x, y)),
         Operation::Difference => h.add(minus(x, y)),
         Operation::Product => h.add(times(x, y)),
-        Operation::Quotient => quotient(h, x, y),
+        Operation::Quotient => divided(h, y, over(x, y)),
+        Operation::Remainder => divided(h, y, rem(x, y)),
     }
 }
 
@@ -49,6 +64,8 @@ fn asked(ask: Ask, h: Hull, x: i32, y: i32) -> Hull {
         Ask::Value => h.add(wide(y)),
         Ask::Negation => h.add(negative(y)),
         Ask::Zero => add_if(h, y == 0, y),
+        Ask::Lowest => h.add(lowest(y)),
+        Ask::Highest => h.add(highest(y)),
         Ask::Result(op) => result(op, h, x, y),
         Ask::Truth(k) => h.add(bit(holds(k, x, y))),
         Ask::Left(k, wanted) => add_if(h, holds(k, x, y) == wanted, x),

@@ -1,7 +1,5 @@
 // Exact arithmetic and comparison of two words, by the machine's own operators and not by the library's.
 use interval::Comparison;
-ghost use mathlib.Core.Path.{_≡_};
-ghost use lib.IntN.{pos};
 
 pub(crate) fn wide(x: i32) -> i64 {
     x as i64
@@ -23,11 +21,14 @@ pub(crate) fn times(x: i32, y: i32) -> i64 {
     x as i64 * y as i64
 }
 
-// Cut towards zero.
-pub(crate) fn over(x: i32, y: i32) -> i64
-    requires { ⌜ (y ≡ pos 0 → ⊥) ⌝ }
-{
-    x as i64 / y as i64
+// Cut towards zero; what it gives by 0 is not asked for.
+pub(crate) fn over(x: i32, y: i32) -> i64 {
+    if y == 0 { 0 } else { x as i64 / y as i64 }
+}
+
+// With the sign of x; what it gives by 0 is not asked for.
+pub(crate) fn rem(x: i32, y: i32) -> i64 {
+    if y == 0 { 0 } else { x as i64 % y as i64 }
 }
 
 pub(crate) fn holds(k: Comparison, x: i32, y: i32) -> bool {

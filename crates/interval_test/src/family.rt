@@ -39,6 +39,7 @@ fn operated(op: Operation, x: Interval, y: Interval) -> Computed {
         Operation::Difference => interval::arithmetic::difference(x, y),
         Operation::Product => interval::arithmetic::product(x, y),
         Operation::Quotient => interval::arithmetic::quotient(x, y),
+        Operation::Remainder => interval::arithmetic::remainder(x, y),
     }
 }
 
@@ -51,6 +52,7 @@ fn by_zero(op: Operation, x: Side, y: Side) -> bool
         Operation::Difference => false,
         Operation::Product => false,
         Operation::Quotient => pairs(Ask::Zero, x, y).some,
+        Operation::Remainder => pairs(Ask::Zero, x, y).some,
     }
 }
 
@@ -65,13 +67,34 @@ fn operation(op: Operation, x: Side, y: Side) -> bool
     h.cut().is(range) & (got.overflow == h.passes()) & (got.zero == by_zero(op, x, y))
 }
 
+// The ends of a remainder need be no exact results: they are those of document 02, and hold every exact result.
+fn remainder(x: Side, y: Side) -> bool
+    requires { ⌜ (x .to ≤ 21) × (y .to ≤ 21) ⌝ }
+{
+    let left = x.given;
+    let right = y.given;
+    let got = operated(Operation::Remainder, left, right);
+    let range = got.range;
+    let dividend = each(Ask::Value, nothing(), x);
+    let h = dividend.remainder(
+        each(Ask::Lowest, nothing(), y),
+        each(Ask::Highest, nothing(), y),
+    );
+    let exact = pairs(Ask::Result(Operation::Remainder), x, y);
+    h.is(range)
+        & exact.within(h)
+        & !got.overflow
+        & (got.zero == by_zero(Operation::Remainder, x, y))
+}
+
 fn arithmetic(t: Tally, x: Side, y: Side) -> Tally
     requires { ⌜ (x .to ≤ 21) × (y .to ≤ 21) ⌝ }
 {
     let sum = t.count(operation(Operation::Sum, x, y));
     let difference = sum.count(operation(Operation::Difference, x, y));
     let product = difference.count(operation(Operation::Product, x, y));
-    product.count(operation(Operation::Quotient, x, y))
+    let quotient = product.count(operation(Operation::Quotient, x, y));
+    quotient.count(remainder(x, y))
 }
 
 fn compared(k: Comparison, x: Interval, y: Interval) -> Decision {

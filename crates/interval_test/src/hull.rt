@@ -59,6 +59,29 @@ impl Hull {
         self.some & ((self.low < -2147483648) | (2147483647 < self.high))
     }
 
+    // Whether every number gathered lies from the least to the greatest of the other.
+    pub(crate) fn within(self, other: Hull) -> bool {
+        !self.some | (other.some & (other.low <= self.low) & (self.high <= other.high))
+    }
+
+    // The ends of a remainder, as document 02 has them, from those of its dividend and from what the divisors leave. By 0 alone, which leaves
+    // nothing, there are none.
+    pub(crate) fn remainder(self, lowest: Hull, highest: Hull) -> Hull {
+        Hull {
+            some: self.some & highest.some & (0 <= highest.high),
+            low: if self.low < 0 {
+                greater(self.low, lowest.low)
+            } else {
+                0
+            },
+            high: if 0 < self.high {
+                lesser(self.high, highest.high)
+            } else {
+                0
+            },
+        }
+    }
+
     // Whether the interval is exactly from the least to the greatest.
     pub(crate) fn is(self, x: Interval) -> bool {
         match x {

@@ -3,7 +3,7 @@ use interval::Interval;
 ghost use Prim.Native.Nat.{_<_, _≤_};
 
 // The words at both ends, where results pass them, and -8 to 8. Since -1, 0 and 1 are there, the least and the greatest result over two
-// intervals are those over their grid values.
+// intervals are those over their grid values, but for a remainder.
 const GRID: [i32; 21] = [
     -2147483648,
     -2147483647,

@@ -4,7 +4,9 @@ use interval::Comparison;
 use interval::Operation;
 use interval::integer::minus;
 use interval::integer::negative;
+use interval::integer::over;
 use interval::integer::plus;
+use interval::integer::rem;
 use interval::integer::same;
 use interval::integer::times;
 use table::Evaluation;
@@ -15,14 +17,14 @@ use words::word;
 ghost use mathlib.Core.Path.{_≡_};
 ghost use mathlib.Core.Bool.{not, _&&_, _||_};
 ghost use lib.Dec.{ltb};
-ghost use lib.IntN.{negℤ};
+ghost use lib.IntN.{pos, negℤ};
 ghost use lib.ListN.{length};
+ghost use Rattle.interval.specs.Integer.{eqZ};
 ghost use Rattle.interval.specs.Compare.{test as testOf};
-ghost use Rattle.interval.specs.declared.Operation.the-variants.{Quotient};
 ghost use Rattle.words.specs.Words.{wordOf};
 ghost use Rattle.table.specs.declared.Verity.the-variants.{Truth};
 ghost use Rattle.table.specs.Tree.{arithAt, condAt};
-ghost use Rattle.table.specs.Meaning.{valueThen, valueThenTell, truthThen, fit as fitOf, perform as performOf, inputBy, result, truth};
+ghost use Rattle.table.specs.Meaning.{valueThen, valueThenTell, truthThen, fit as fitOf, performBy, perform as performOf, inputBy, result, truth};
 
 // ---- one node
 
@@ -37,14 +39,14 @@ fn fit(n: usize, z: i64, at: usize) -> Evaluation
     }
 }
 
-// The quotient is cut towards zero.
-fn divide(n: usize, a: i32, b: i32, at: usize) -> Evaluation
-    ensures { λ r. ⌜ r ≡ performOf n Quotient a b at ⌝ }
+// The exact result z of a division by b at the node n, or the error that b is 0.
+fn divide(n: usize, b: i32, z: i64, at: usize) -> Evaluation
+    ensures { λ r. ⌜ r ≡ performBy (eqZ b (pos 0)) n z at ⌝ }
 {
     if b == 0 {
         Evaluation::Error(n, 2, at)
     } else {
-        fit(n, a as i64 / b as i64, at)
+        fit(n, z, at)
     }
 }
 
@@ -55,7 +57,8 @@ fn perform(n: usize, op: Operation, a: i32, b: i32, at: usize) -> Evaluation
         Operation::Sum => fit(n, plus(a, b), at),
         Operation::Difference => fit(n, minus(a, b), at),
         Operation::Product => fit(n, times(a, b), at),
-        Operation::Quotient => divide(n, a, b, at),
+        Operation::Quotient => divide(n, b, over(a, b), at),
+        Operation::Remainder => divide(n, b, rem(a, b), at),
     }
 }
 

@@ -1,34 +1,21 @@
--- Laws of decoding: a shape whose children are below it or are not, the shape of a kind that is known by a range, and a node and a point by
--- the four words that were read.
+-- Laws of decoding: a shape whose children are below it or are not, the shape of a kind that there is not, and a node and a point by the four words
+-- that were read.
 -- Assumes nothing.
-use Prim.Native.Nat.{ℕ, _<_, _≤_}
+use Prim.Native.Nat.{ℕ, _<_}
 use mathlib.Core.Path.{_≡_, ap, _∙_}
-use mathlib.Core.Bool.{Bool, true, false, _&&_}
-use native.Mathlib.Omega.{arith}
-use borrow.Author.Tests.{le-leb, lt-leb, ne-eqb}
-use lib.Dec.{leb, ltb}
+use mathlib.Core.Bool.{Bool, true, false}
+use borrow.Author.Tests.{ne-eqb}
 use lib.IntN.{ℤ}
 use lib.Signed.{mag}
 use mir.Syntax.{w32}
 use mir.Val.{toZ, ofZ}
-use Rattle.words.specs.Words.{inside, numberOf}
-use Rattle.words.proofs.Bools.{and-true, and-false}
+use Rattle.words.specs.Words.{numberOf}
 use Rattle.words.proofs.Signed.{read-back}
 use Rattle.table.specs.declared.Four.{Four}
 use Rattle.table.specs.declared.Shape.{Shape}
-use Rattle.table.specs.declared.Shape.the-variants.{Binary, Compare, Bad}
+use Rattle.table.specs.declared.Shape.the-variants.{Bad}
 use Rattle.table.specs.declared.Point.{Point}
-use Rattle.table.specs.Decode.{kept, operationOf, comparisonOf, shapeBy, shapeFrom, pointBy, pointFrom}
-
--- ---- a number in a range, before it and past it
-pub in-range : (lo hi : ℕ) {k : ℕ} → lo ≤ k → k ≤ hi → inside lo hi k ≡ true
-in-range lo hi {k} l h = and-true (le-leb lo k l) (le-leb k hi h)
-
-pub before-range : (lo hi : ℕ) {k : ℕ} → k < lo → inside lo hi k ≡ false
-before-range lo hi {k} l = rw (lt-leb lo k l)
-
-pub past-range : (lo hi : ℕ) {k : ℕ} → hi < k → inside lo hi k ≡ false
-past-range lo hi {k} l = rw (lt-leb k hi l) (and-false (leb lo k))
+use Rattle.table.specs.Decode.{kept, shapeBy, shapeFrom, pointBy, pointFrom}
 
 -- ---- a shape whose children are below it, and one with a child that is not
 pub kept-yes : {b : Bool} {s : Shape} → b ≡ true → s ≡ kept b s
@@ -39,64 +26,32 @@ pub kept-no : (s : Shape) {b : Bool} → b ≡ false → Bad ≡ kept b s
 unfolding kept
 kept-no s e = rw e
 
--- ---- the shape of a kind in a range
-module _ (n k : ℕ) (x y : ℤ) (a b c : ℕ) where
-  pub binary-shape : 4 ≤ k → k < 8 → shapeBy n k x y a b c ≡ kept (ltb a n && ltb b n) (Binary (operationOf k) a b)
-  unfolding shapeBy
-  binary-shape l h =
-      rw (
-        ne-eqb k 0 (λ e. omega arith),
-        ne-eqb k 1 (λ e. omega arith),
-        ne-eqb k 2 (λ e. omega arith),
-        ne-eqb k 3 (λ e. omega arith),
-        in-range 4 7 l (omega arith),
-      )
+-- ---- the shape of a kind that is none of those there are, as the match leaves it
+abbrev pub NoKind : ℕ → Type 0
+NoKind k = ((((((((((((((((Unit {0} × (k ≡ 0 → ⊥)) × (k ≡ 1 → ⊥)) × (k ≡ 2 → ⊥)) × (k ≡ 3 → ⊥)) × (k ≡ 4 → ⊥)) × (k ≡ 5 → ⊥)) × (k ≡ 6 → ⊥)) × (k ≡ 7 → ⊥)) × (k ≡ 8 → ⊥)) × (k ≡ 9 → ⊥)) × (k ≡ 16 → ⊥)) × (k ≡ 17 → ⊥)) × (k ≡ 18 → ⊥)) × (k ≡ 19 → ⊥)) × (k ≡ 20 → ⊥)) × (k ≡ 21 → ⊥)) × (k ≡ 22 → ⊥)
 
-  pub compare-shape : 16 ≤ k → k < 20 → shapeBy n k x y a b c ≡ kept (ltb a n && ltb b n) (Compare (comparisonOf k) a b)
-  unfolding shapeBy
-  compare-shape l h =
-      rw (
-        ne-eqb k 0 (λ e. omega arith),
-        ne-eqb k 1 (λ e. omega arith),
-        ne-eqb k 2 (λ e. omega arith),
-        ne-eqb k 3 (λ e. omega arith),
-        past-range 4 7 {k = k} (omega arith),
-        ne-eqb k 8 (λ e. omega arith),
-        in-range 16 19 l (omega arith),
-      )
-
-  -- no kind stands between the arithmetic nodes and the conditions, or past the conditions
-  pub between-shape : 8 < k → k < 16 → Bad ≡ shapeBy n k x y a b c
-  unfolding shapeBy
-  between-shape l h =
-      rw (
-        ne-eqb k 0 (λ e. omega arith),
-        ne-eqb k 1 (λ e. omega arith),
-        ne-eqb k 2 (λ e. omega arith),
-        ne-eqb k 3 (λ e. omega arith),
-        past-range 4 7 {k = k} (omega arith),
-        ne-eqb k 8 (λ e. omega arith),
-        before-range 16 19 h,
-        ne-eqb k 20 (λ e. omega arith),
-        ne-eqb k 21 (λ e. omega arith),
-        ne-eqb k 22 (λ e. omega arith),
-      )
-
-  pub past-shape : 22 < k → Bad ≡ shapeBy n k x y a b c
-  unfolding shapeBy
-  past-shape l =
-      rw (
-        ne-eqb k 0 (λ e. omega arith),
-        ne-eqb k 1 (λ e. omega arith),
-        ne-eqb k 2 (λ e. omega arith),
-        ne-eqb k 3 (λ e. omega arith),
-        past-range 4 7 {k = k} (omega arith),
-        ne-eqb k 8 (λ e. omega arith),
-        past-range 16 19 {k = k} (omega arith),
-        ne-eqb k 20 (λ e. omega arith),
-        ne-eqb k 21 (λ e. omega arith),
-        ne-eqb k 22 (λ e. omega arith),
-      )
+pub unknown-shape : (n k : ℕ) (x y : ℤ) (a b c : ℕ) → NoKind k → Bad ≡ shapeBy n k x y a b c
+unfolding shapeBy
+unknown-shape n k x y a b c h =
+    rw (
+      ne-eqb k 0 (h .0 .0 .0 .0 .0 .0 .0 .0 .0 .0 .0 .0 .0 .0 .0 .0 .1),
+      ne-eqb k 1 (h .0 .0 .0 .0 .0 .0 .0 .0 .0 .0 .0 .0 .0 .0 .0 .1),
+      ne-eqb k 2 (h .0 .0 .0 .0 .0 .0 .0 .0 .0 .0 .0 .0 .0 .0 .1),
+      ne-eqb k 3 (h .0 .0 .0 .0 .0 .0 .0 .0 .0 .0 .0 .0 .0 .1),
+      ne-eqb k 4 (h .0 .0 .0 .0 .0 .0 .0 .0 .0 .0 .0 .0 .1),
+      ne-eqb k 5 (h .0 .0 .0 .0 .0 .0 .0 .0 .0 .0 .0 .1),
+      ne-eqb k 6 (h .0 .0 .0 .0 .0 .0 .0 .0 .0 .0 .1),
+      ne-eqb k 7 (h .0 .0 .0 .0 .0 .0 .0 .0 .0 .1),
+      ne-eqb k 8 (h .0 .0 .0 .0 .0 .0 .0 .0 .1),
+      ne-eqb k 9 (h .0 .0 .0 .0 .0 .0 .0 .1),
+      ne-eqb k 16 (h .0 .0 .0 .0 .0 .0 .1),
+      ne-eqb k 17 (h .0 .0 .0 .0 .0 .1),
+      ne-eqb k 18 (h .0 .0 .0 .0 .1),
+      ne-eqb k 19 (h .0 .0 .0 .1),
+      ne-eqb k 20 (h .0 .0 .1),
+      ne-eqb k 21 (h .0 .1),
+      ne-eqb k 22 (h .1),
+    )
 
 -- ---- what stands at four words that were read
 -- the number of a word that comes back from its bits

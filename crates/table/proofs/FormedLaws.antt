@@ -45,7 +45,7 @@ pub both-fields : (a : ℤ) {k : ℕ} → 20 ≤ k → k < 22 → nodeFieldsOf k
 unfolding nodeFieldsOf
 both-fields a l h = simp (from-eqb l, from-leb l, from-geb l, below-leb h)
 
-pub between-fields : (a : ℤ) {k : ℕ} → 8 < k → k < 16 → nodeFieldsOf k a ≡ fieldsOf Unknown Unknown Unknown
+pub between-fields : (a : ℤ) {k : ℕ} → 9 < k → k < 16 → nodeFieldsOf k a ≡ fieldsOf Unknown Unknown Unknown
 unfolding nodeFieldsOf
 between-fields a l h = simp (from-eqb l, from-leb l, from-geb l, below-eqb h, below-geb h)
 

@@ -2,20 +2,25 @@
 -- Assumes nothing.
 use Prim.Native.Nat.{ℕ, suc, _+_, _<_}
 use mathlib.Core.Path.{_≡_, refl, sym, subst, _∙_}
-use mathlib.Core.Bool.{Bool, true, false}
+use mathlib.Core.Bool.{Bool, true, false, _&&_}
 use mathlib.Core.List.{List}
 use native.Mathlib.Omega.{arith}
-use borrow.Author.Tests.{leb-true, ltb-true, eqb-true, eqb-false, le-leb, lt-ltb}
+use borrow.Author.Tests.{leb-true, leb-false, ltb-true, eqb-true, eqb-false, le-leb, lt-leb, lt-ltb}
 use lib.Dec.{T, lit<, leb, ltb, eqb}
 use lib.IntN.{ℤ}
 use lib.ListN.{length, getD}
 use lib.Signed.{_≤ℤ_, leZ-yes}
+use Rattle.interval.specs.declared.Operation.{Operation}
+use Rattle.interval.specs.declared.Operation.the-variants.{Sum, Difference, Product, Quotient, Remainder}
+use Rattle.interval.specs.declared.Comparison.{Comparison}
+use Rattle.interval.specs.declared.Comparison.the-variants.{Less, AtMost, Equal, NotEqual}
 use Rattle.words.specs.declared.Stage.the-variants.{Passed}
 use Rattle.words.specs.Words.{numberOf, numberAt, inside}
-use Rattle.words.proofs.Bools.{clash, and-true, and-left, and-right}
+use Rattle.words.proofs.Bools.{clash, and-left, and-right}
 use Rattle.words.proofs.FirstLaws.{firstBad-none}
 use Rattle.words.proofs.StageLaws.{refuse-found, refuse-later, test-passed}
 use Rattle.table.specs.declared.Shape.{Shape}
+use Rattle.table.specs.declared.Shape.the-variants.{Binary, Compare, Both, Either}
 use Rattle.table.specs.declared.Point.{Point}
 use Rattle.table.specs.declared.Four.{Four}
 use Rattle.table.specs.declared.Limits.{Limits}
@@ -23,8 +28,8 @@ use Rattle.table.specs.declared.Fields.{Fields}
 use Rattle.table.specs.declared.Field.{Field}
 use Rattle.table.specs.declared.Field.the-variants.{Unused, Any, AtLeast, Variable, Mutex, Arithmetic, Condition, Target, Unknown}
 use Rattle.table.specs.Layout.{sizesOf, lengthOf, sharesOf, pointsOf, nodesOf, fourOf, firstOf, taskOf}
-use Rattle.table.specs.Decode.{pick, kept, shapeBy, shapeFrom, shapeOf, pointBy, pointFrom, pointOf}
-use Rattle.table.specs.Formed.{nodeFieldsOf, pointFieldsOf, fitsOf, fieldsFitOf}
+use Rattle.table.specs.Decode.{pick, kept, operationOf, comparisonOf, shapeBy, shapeFrom, shapeOf, pointBy, pointFrom, pointOf}
+use Rattle.table.specs.Formed.{fieldsOf, nodeFieldsOf, pointFieldsOf, fitsOf, fieldsFitOf}
 use Rattle.table.specs.Uses.{refsBelow, nodeRefs, pointRefs, countOf, usesOf, rule6}
 use Rattle.table.specs.Validate.{lowest, highest, sizeOkOf, shareOkOf, rule4, rule5, sizesStage, partsStage, validateOf}
 use Rattle.table.specs.Passes.{Between, ArithmeticBelow, ConditionBelow, SameTask, FormedNode, FormedPoint, Passes}
@@ -68,11 +73,16 @@ module _ (t : List ℤ) (nodes task : ℕ) where
       (fits-told _ _ (and-left _ _ e), fits-told _ _ (and-left _ _ r), fits-told _ _ (and-right (fitsOf limits t (nodesOf t) (f .b) (x .b)) _ r))
 
 -- ---- fields and shape, or fields and point, are picked by the same kinds
+-- a number that isn't m is past m where it is from m on
+next-leb : (m k : ℕ) → (k ≡ m → ⊥) → leb m k ≡ leb (suc m) k
+next-leb m k n = by (leb (suc m) k) refl
+  where
+    by : (t : Bool) → leb (suc m) k ≡ t → leb m k ≡ t
+    by true e = le-leb m k (omega (arith, leb-true (suc m) k e))
+    by false e = lt-leb m k (omega (arith, leb-false (suc m) k e))
+
 inside-true : (lo hi n : ℕ) → inside lo hi n ≡ true → Between lo hi n
 inside-true lo hi n e = record { low = leb-true lo n (and-left _ _ e); high = leb-true n hi (and-right (leb lo n) _ e) }
-
-inside-false : (lo hi n : ℕ) → inside lo hi n ≡ false → Between lo hi n → ⊥
-inside-false lo hi n e b = clash (sym (and-true (le-leb lo n (b .low)) (le-leb n hi (b .high))) ∙ e)
 
 module _ {A B : Type 0} (R : A → B → Type 0) where
   pick-both : (s : Bool) {x y : A} {u v : B} → R x u → R y v → R (pick s x y) (pick s u v)
@@ -84,20 +94,36 @@ module _ {A B : Type 0} (R : A → B → Type 0) where
   pick-left true u p q = p refl
   pick-left false u p q = q
 
-  -- two kinds in a row have the same fields
-  pick-two : (m k : ℕ) {x y : A} {u v w : B} → R x u → R x v → R y w → R (pick (inside m (suc m) k) x y) (pick (eqb k m) u (pick (eqb k (suc m)) v w))
-  pick-two m k {x} {y} {u} {v} {w} p q r = by (inside m (suc m) k) (eqb k m) (eqb k (suc m)) refl refl refl
+  -- kinds in a row have the same fields: the first of them, and those after it; and the last one
+  pick-next : (m high k : ℕ) (y : A) (u : B) {x : A} {v : B} → leb m high ≡ true → R x u → R (pick (inside (suc m) high k) x y) v → R (pick (inside m high k) x y) (pick (eqb k m) u v)
+  pick-next m high k y u {x} {v} l p q = by (eqb k m) refl
     where
-      by : (i s o : Bool) → inside m (suc m) k ≡ i → eqb k m ≡ s → eqb k (suc m) ≡ o → R (pick i x y) (pick s u (pick o v w))
-      by true true o ei es eo = p
-      by true false true ei es eo = q
-      by true false false ei es eo = absurd (omega (arith, inside-true m (suc m) k ei, eqb-false k m es, eqb-false k (suc m) eo))
-      by false true o ei es eo = let is = eqb-true k m es in absurd (inside-false m (suc m) k ei (omega arith))
-      by false false true ei es eo = let is = eqb-true k (suc m) eo in absurd (inside-false m (suc m) k ei (omega arith))
-      by false false false ei es eo = r
+      by : (t : Bool) → eqb k m ≡ t → R (pick (inside m high k) x y) (pick t u v)
+      by true e = rw (le-leb m k (omega (arith, eqb-true k m e)), le-leb k high (omega (arith, eqb-true k m e, leb-true m high l))) p
+      by false e = rw (next-leb m k (eqb-false k m e)) q
+
+  pick-last : (m k : ℕ) {x y : A} {u v : B} → R x u → R y v → R (pick (inside m m k) x y) (pick (eqb k m) u v)
+  pick-last m k {x} {y} {u} {v} p q = pick-next m m k y u (le-leb m m (omega arith)) p (by (inside (suc m) m k) refl)
+    where
+      by : (t : Bool) → inside (suc m) m k ≡ t → R (pick t x y) v
+      by true e = absurd (omega (arith, inside-true (suc m) m k e))
+      by false e = q
 
 -- ---- 4 node
 module _ (t : List ℤ) (n : ℕ) where
+  -- a shape of two children that are below the node is kept
+  two-formed : {a b : ℕ} (s : Shape) → a < n → b < n → FormedNode t n s → FormedNode t n (kept (ltb a n && ltb b n) s)
+  unfolding kept
+  two-formed s l m h = rw (lt-ltb _ n l, lt-ltb _ n m) h
+
+  operation-formed : (op : Operation) (x : Four) → AllTold t n 0 (fieldsOf Arithmetic Arithmetic Unused) x → FormedNode t n (operationOf op n (numberOf (x .a)) (numberOf (x .b)))
+  unfolding FormedNode
+  operation-formed op x h = two-formed (Binary op _ _) (h .0 .below) (h .1 .below) (h .0, h .1)
+
+  comparison-formed : (k : Comparison) (x : Four) → AllTold t n 0 (fieldsOf Arithmetic Arithmetic Unused) x → FormedNode t n (comparisonOf k n (numberOf (x .a)) (numberOf (x .b)))
+  unfolding FormedNode
+  comparison-formed k x h = two-formed (Compare k _ _) (h .0 .below) (h .1 .below) (h .0, h .1)
+
   shape-formed : (x : Four) → AllTold t n 0 (nodeFieldsOf (numberOf (x .kind)) (x .a)) x → FormedNode t n (shapeFrom n x)
   unfolding nodeFieldsOf shapeFrom shapeBy kept FormedNode
   shape-formed x =
@@ -107,14 +133,20 @@ module _ (t : List ℤ) (n : ℕ) where
       (pick-both R (eqb k 1) (λ h. h .1)
       (pick-both R (eqb k 2) (λ h. h .0)
       (pick-both R (eqb k 3) (λ h. rw (lt-ltb _ n (h .0 .below)) (h .0))
-      (pick-both R (inside 4 7 k) (λ h. rw (lt-ltb _ n (h .0 .below), lt-ltb _ n (h .1 .below)) (h .0, h .1))
+      (pick-next R 4 7 k _ _ refl (operation-formed Sum x)
+      (pick-next R 5 7 k _ _ refl (operation-formed Difference x)
+      (pick-next R 6 7 k _ _ refl (operation-formed Product x)
+      (pick-last R 7 k (operation-formed Quotient x)
       (pick-both R (eqb k 8) (λ h. rw (lt-ltb _ n (h .0 .below), lt-ltb _ n (h .1 .below), lt-ltb _ n (h .2 .below)) h)
-      (pick-both R (inside 16 19 k) (λ h. rw (lt-ltb _ n (h .0 .below), lt-ltb _ n (h .1 .below)) (h .0, h .1))
-      (pick-two R 20 k
-      (λ h. rw (lt-ltb _ n (h .0 .below), lt-ltb _ n (h .1 .below)) (h .0, h .1))
-      (λ h. rw (lt-ltb _ n (h .0 .below), lt-ltb _ n (h .1 .below)) (h .0, h .1))
+      (pick-both R (eqb k 9) (operation-formed Remainder x)
+      (pick-next R 16 19 k _ _ refl (comparison-formed Less x)
+      (pick-next R 17 19 k _ _ refl (comparison-formed AtMost x)
+      (pick-next R 18 19 k _ _ refl (comparison-formed Equal x)
+      (pick-last R 19 k (comparison-formed NotEqual x)
+      (pick-next R 20 21 k _ _ refl (λ h. two-formed (Both _ _) (h .0 .below) (h .1 .below) (h .0, h .1))
+      (pick-last R 21 k (λ h. two-formed (Either _ _) (h .0 .below) (h .1 .below) (h .0, h .1))
       (pick-both R (eqb k 22) (λ h. rw (lt-ltb _ n (h .0 .below)) (h .0))
-      (λ h. h .0)))))))))
+      (λ h. h .0)))))))))))))))))
 
   node-formed : rule4 t n ≡ true → FormedNode t n (shapeOf (nodesOf t) n)
   node-formed e = let x = fourOf (nodesOf t) n in shape-formed x (fields-told t n 0 _ x e)
@@ -132,7 +164,7 @@ module _ (t : List ℤ) (p : ℕ) where
       pick-left R (eqb k 0) (pointFrom x) (λ e h. rw (eqb-true k 0 e) tt)
       (pick-both R (eqb k 1) (λ h. (h .0, h .1, same-task (h .2)))
       (pick-both R (eqb k 2) (λ h. (h .0, same-task (h .1), same-task (h .2)))
-      (pick-two R 3 k (λ h. (h .0, same-task (h .1))) (λ h. (h .0, same-task (h .1))) (λ h. absurd (h .0)))))
+      (pick-next R 3 4 k _ _ refl (λ h. (h .0, same-task (h .1))) (pick-last R 4 k (λ h. (h .0, same-task (h .1))) (λ h. absurd (h .0))))))
 
   point-formed : rule5 t p ≡ true → FormedPoint t p (pointOf (pointsOf t) p)
   point-formed e = let x = fourOf (pointsOf t) p in place-formed x (fields-told t (sizesOf t .nodes) (taskOf t p) _ x e)

@@ -9,7 +9,6 @@ use native.Mathlib.Omega.{arith}
 use borrow.Author.Tests.{ltb-true}
 use lib.Dec.{eqb, ltb}
 use lib.IntN.{ℤ}
-use Rattle.words.specs.Words.{inside}
 use Rattle.words.proofs.Bools.{and-left, and-right}
 use Rattle.table.specs.declared.Shape.{Shape}
 use Rattle.table.specs.declared.Shape.the-variants.{Constant, Input, Variable, Negation, Binary, Choice, Compare, Both, Either, Not, Bad}
@@ -36,12 +35,19 @@ shapeBy-below n k x y a b c =
     (below-pick n (eqb k 1) _ _ tt
     (below-pick n (eqb k 2) _ _ tt
     (below-pick n (eqb k 3) _ _ (below-kept n _ _ (ltb-true a n))
-    (below-pick n (inside 4 7 k) _ _ (below-kept n _ _ two)
+    (below-pick n (eqb k 4) _ _ (below-kept n _ _ two)
+    (below-pick n (eqb k 5) _ _ (below-kept n _ _ two)
+    (below-pick n (eqb k 6) _ _ (below-kept n _ _ two)
+    (below-pick n (eqb k 7) _ _ (below-kept n _ _ two)
     (below-pick n (eqb k 8) _ _ (below-kept n _ _ three)
-    (below-pick n (inside 16 19 k) _ _ (below-kept n _ _ two)
+    (below-pick n (eqb k 9) _ _ (below-kept n _ _ two)
+    (below-pick n (eqb k 16) _ _ (below-kept n _ _ two)
+    (below-pick n (eqb k 17) _ _ (below-kept n _ _ two)
+    (below-pick n (eqb k 18) _ _ (below-kept n _ _ two)
+    (below-pick n (eqb k 19) _ _ (below-kept n _ _ two)
     (below-pick n (eqb k 20) _ _ (below-kept n _ _ two)
     (below-pick n (eqb k 21) _ _ (below-kept n _ _ two)
-    (below-pick n (eqb k 22) _ _ (below-kept n _ _ (ltb-true a n)) tt)))))))))
+    (below-pick n (eqb k 22) _ _ (below-kept n _ _ (ltb-true a n)) tt))))))))))))))))
 
 pub children-below : (ns : List ℤ) (n : ℕ) → Below n (shapeOf ns n)
 unfolding shapeFrom

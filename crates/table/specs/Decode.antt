@@ -1,4 +1,4 @@
--- What stands at a node and at a point, with no recursion (document 01, 'Task table').
+-- What stands at a node and at a point, with no recursion (document 01, 'Task table'; document 02, request 1).
 -- Assumes nothing.
 use Prim.Native.Nat.{ℕ, _<_}
 use mathlib.Core.Bool.{Bool, true, false, _&&_}
@@ -6,7 +6,7 @@ use mathlib.Core.List.{List}
 use lib.Dec.{eqb, leb, ltb}
 use lib.IntN.{ℤ}
 use Rattle.interval.specs.declared.Operation.{Operation}
-use Rattle.interval.specs.declared.Operation.the-variants.{Sum, Difference, Product, Quotient}
+use Rattle.interval.specs.declared.Operation.the-variants.{Sum, Difference, Product, Quotient, Remainder}
 use Rattle.interval.specs.declared.Comparison.{Comparison}
 use Rattle.interval.specs.declared.Comparison.the-variants.{Less, AtMost, Equal, NotEqual}
 use Rattle.words.specs.Words.{numberOf, inside}
@@ -22,20 +22,12 @@ pick true x y = x
 pick false x y = y
 
 -- ---- kinds of nodes
--- 'arithmetic nodes' 0 to 8, 'conditions' 16 to 22
+-- 'arithmetic nodes' 0 to 9, 'conditions' 16 to 22
 abbrev pub isArithmetic : ℕ → Bool
-isArithmetic k = leb k 8
+isArithmetic k = leb k 9
 
 abbrev pub isCondition : ℕ → Bool
 isCondition k = inside 16 22 k
-
--- '4 sum, 5 difference, 6 product, 7 quotient'
-unfoldable pub operationOf : ℕ → Operation
-operationOf k = pick (eqb k 4) Sum (pick (eqb k 5) Difference (pick (eqb k 6) Product Quotient))
-
--- '16 less, 17 at most, 18 equal, 19 not equal'
-unfoldable pub comparisonOf : ℕ → Comparison
-comparisonOf k = pick (eqb k 16) Less (pick (eqb k 17) AtMost (pick (eqb k 18) Equal NotEqual))
 
 -- ---- shapes
 -- 'a child's number is below its parent's': the shape s where that holds
@@ -43,20 +35,35 @@ unfoldable pub kept : Bool → Shape → Shape
 kept true s = s
 kept false s = Bad
 
--- the shape of the node n of the kind k, by its words x y and the numbers a b c of its fields
+-- an operation and a comparison of the nodes a and b, at the node n
+abbrev pub operationOf : Operation → ℕ → ℕ → ℕ → Shape
+operationOf op n a b = kept (ltb a n && ltb b n) (Binary op a b)
+
+abbrev pub comparisonOf : Comparison → ℕ → ℕ → ℕ → Shape
+comparisonOf k n a b = kept (ltb a n && ltb b n) (Compare k a b)
+
+-- the shape of the node n of the kind k, by its words x y and the numbers a b c of its fields: '4 sum, 5 difference, 6 product, 7 quotient', 'arithmetic
+-- node 9, the remainder'; '16 less, 17 at most, 18 equal, 19 not equal'. A kind that is none of these is `Bad`
 unfoldable pub shapeBy : ℕ → ℕ → ℤ → ℤ → ℕ → ℕ → ℕ → Shape
 shapeBy n k x y a b c =
     pick (eqb k 0) (Constant x)
     (pick (eqb k 1) (Input x y)
     (pick (eqb k 2) (Variable a)
     (pick (eqb k 3) (kept (ltb a n) (Negation a))
-    (pick (inside 4 7 k) (kept (ltb a n && ltb b n) (Binary (operationOf k) a b))
+    (pick (eqb k 4) (operationOf Sum n a b)
+    (pick (eqb k 5) (operationOf Difference n a b)
+    (pick (eqb k 6) (operationOf Product n a b)
+    (pick (eqb k 7) (operationOf Quotient n a b)
     (pick (eqb k 8) (kept (ltb a n && (ltb b n && ltb c n)) (Choice a b c))
-    (pick (inside 16 19 k) (kept (ltb a n && ltb b n) (Compare (comparisonOf k) a b))
+    (pick (eqb k 9) (operationOf Remainder n a b)
+    (pick (eqb k 16) (comparisonOf Less n a b)
+    (pick (eqb k 17) (comparisonOf AtMost n a b)
+    (pick (eqb k 18) (comparisonOf Equal n a b)
+    (pick (eqb k 19) (comparisonOf NotEqual n a b)
     (pick (eqb k 20) (kept (ltb a n && ltb b n) (Both a b))
     (pick (eqb k 21) (kept (ltb a n && ltb b n) (Either a b))
     (pick (eqb k 22) (kept (ltb a n) (Not a))
-    Bad)))))))))
+    Bad))))))))))))))))
 
 unfoldable pub shapeFrom : ℕ → Four → Shape
 shapeFrom n f = shapeBy n (numberOf (f .kind)) (f .a) (f .b) (numberOf (f .a)) (numberOf (f .b)) (numberOf (f .c))

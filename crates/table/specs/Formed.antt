@@ -1,4 +1,4 @@
--- Refusals 4 and 5 at a place: what the fields of a node and of a point must be (document 01, 'Task table').
+-- Refusals 4 and 5 at a place: what the fields of a node and of a point must be (document 01, 'Task table'; document 02, request 1).
 -- Assumes nothing.
 use Prim.Native.Nat.{ℕ}
 use mathlib.Core.Bool.{Bool, true, false, _&&_}
@@ -20,7 +20,7 @@ abbrev pub fieldsOf : Field → Field → Field → Fields
 fieldsOf a b c = record { a = a; b = b; c = c }
 
 -- '0 constant a; 1 input between a and b (a at most b); 2 variable a; 3 negation of a; 4 sum, 5 difference, 6 product, 7 quotient of a and b;
--- 8 choice: condition a, then b, else c'; '16 less, 17 at most, 18 equal, 19 not equal (of arithmetic a, b); 20 both, 21 either (of conditions
+-- 8 choice: condition a, then b, else c'; 'arithmetic node 9, the remainder of a by b'; '16 less, 17 at most, 18 equal, 19 not equal (of arithmetic a, b); 20 both, 21 either (of conditions
 -- a, b); 22 not a'; 'unused fields are 0'
 unfoldable pub nodeFieldsOf : ℕ → ℤ → Fields
 nodeFieldsOf k a =
@@ -30,10 +30,11 @@ nodeFieldsOf k a =
     (pick (eqb k 3) (fieldsOf Arithmetic Unused Unused)
     (pick (inside 4 7 k) (fieldsOf Arithmetic Arithmetic Unused)
     (pick (eqb k 8) (fieldsOf Condition Arithmetic Arithmetic)
+    (pick (eqb k 9) (fieldsOf Arithmetic Arithmetic Unused)
     (pick (inside 16 19 k) (fieldsOf Arithmetic Arithmetic Unused)
     (pick (inside 20 21 k) (fieldsOf Condition Condition Unused)
     (pick (eqb k 22) (fieldsOf Condition Unused Unused)
-    (fieldsOf Unknown Unknown Unknown)))))))))
+    (fieldsOf Unknown Unknown Unknown))))))))))
 
 -- '0 end; 1 assign variable a from arithmetic node b, go to c; 2 test condition node a, yes to b, no to c; 3 lock mutex a, go to b; 4 unlock
 -- mutex a, go to b'

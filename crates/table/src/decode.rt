@@ -10,33 +10,31 @@ ghost use mathlib.Core.Bool.{_&&_};
 ghost use lib.Dec.{ltb};
 ghost use Rattle.table.specs.Decode.{operationOf, comparisonOf, shapeBy, shapeOf, pointBy, pointOf};
 
-fn operation(k: usize) -> Operation
-    ensures { λ r. ⌜ r ≡ operationOf k ⌝ }
-{
-    match k {
-        4 => Operation::Sum,
-        5 => Operation::Difference,
-        6 => Operation::Product,
-        _ => Operation::Quotient,
-    }
-}
-
-fn comparison(k: usize) -> Comparison
-    ensures { λ r. ⌜ r ≡ comparisonOf k ⌝ }
-{
-    match k {
-        16 => Comparison::Less,
-        17 => Comparison::AtMost,
-        18 => Comparison::Equal,
-        _ => Comparison::NotEqual,
-    }
-}
-
 // Whether both children are below their parent n.
 fn both_below(n: usize, a: usize, b: usize) -> bool
     ensures { λ r. ⌜ r ≡ ltb a n && ltb b n ⌝ }
 {
     (a < n) & (b < n)
+}
+
+fn operation(op: Operation, n: usize, a: usize, b: usize) -> Shape
+    ensures { λ r. ⌜ r ≡ operationOf op n a b ⌝ }
+{
+    if both_below(n, a, b) {
+        Shape::Binary(op, a, b)
+    } else {
+        Shape::Bad
+    }
+}
+
+fn comparison(k: Comparison, n: usize, a: usize, b: usize) -> Shape
+    ensures { λ r. ⌜ r ≡ comparisonOf k n a b ⌝ }
+{
+    if both_below(n, a, b) {
+        Shape::Compare(k, a, b)
+    } else {
+        Shape::Bad
+    }
 }
 
 // The shape of the node n of the kind k, by its words x and y and the numbers of its fields.
@@ -52,21 +50,20 @@ fn shape_by(n: usize, k: usize, x: i32, y: i32, a: usize, b: usize, c: usize) ->
         } else {
             Shape::Bad
         },
-        4..=7 => if both_below(n, a, b) {
-            Shape::Binary(operation(k), a, b)
-        } else {
-            Shape::Bad
-        },
+        4 => operation(Operation::Sum, n, a, b),
+        5 => operation(Operation::Difference, n, a, b),
+        6 => operation(Operation::Product, n, a, b),
+        7 => operation(Operation::Quotient, n, a, b),
         8 => if (a < n) & ((b < n) & (c < n)) {
             Shape::Choice(a, b, c)
         } else {
             Shape::Bad
         },
-        16..=19 => if both_below(n, a, b) {
-            Shape::Compare(comparison(k), a, b)
-        } else {
-            Shape::Bad
-        },
+        9 => operation(Operation::Remainder, n, a, b),
+        16 => comparison(Comparison::Less, n, a, b),
+        17 => comparison(Comparison::AtMost, n, a, b),
+        18 => comparison(Comparison::Equal, n, a, b),
+        19 => comparison(Comparison::NotEqual, n, a, b),
         20 => if both_below(n, a, b) {
             Shape::Both(a, b)
         } else {

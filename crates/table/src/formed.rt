@@ -27,6 +27,7 @@ pub(crate) fn node_fields(k: usize, a: i32) -> Fields
         3 => fields(Field::Arithmetic, Field::Unused, Field::Unused),
         4..=7 => fields(Field::Arithmetic, Field::Arithmetic, Field::Unused),
         8 => fields(Field::Condition, Field::Arithmetic, Field::Arithmetic),
+        9 => fields(Field::Arithmetic, Field::Arithmetic, Field::Unused),
         16..=19 => fields(Field::Arithmetic, Field::Arithmetic, Field::Unused),
         20..=21 => fields(Field::Condition, Field::Condition, Field::Unused),
         22 => fields(Field::Condition, Field::Unused, Field::Unused),
@@ -59,7 +60,7 @@ fn is_arithmetic(k: usize) -> bool
     ensures { λ r. ⌜ r ≡ isArithmetic k ⌝ }
 {
     match k {
-        0..=8 => true,
+        0..=9 => true,
         _ => false,
     }
 }

@@ -96,6 +96,10 @@ pub fn choice(condition: Tree, then: Tree, otherwise: Tree) -> Tree {
     over(8, [condition, then, otherwise])
 }
 
+pub fn remainder(a: Tree, b: Tree) -> Tree {
+    over(9, [a, b])
+}
+
 pub fn less(a: Tree, b: Tree) -> Tree {
     over(16, [a, b])
 }
@@ -124,7 +128,7 @@ pub fn not(a: Tree) -> Tree {
     over(22, [a])
 }
 
-/// An operation or a comparison by its kind: 4 to 7, or 16 to 21.
+/// An operation or a comparison by its kind: 4 to 7, 9, or 16 to 21.
 pub fn binary(kind: i32, a: Tree, b: Tree) -> Tree {
     over(kind, [a, b])
 }
@@ -214,6 +218,14 @@ pub fn rows(count: usize, row: &[Ends]) -> Vec<Row> {
     vec![row.to_vec(); count]
 }
 
+/// What is left without the low end, and without the high end; in the place of
+/// a single value its neighbours, of which a limit has one.
+pub fn narrower((low, high): Ends) -> Vec<Ends> {
+    let above = low.checked_add(1).map(|low| (low, high.max(low)));
+    let below = high.checked_sub(1).map(|high| (low.min(high), high));
+    [above, below].into_iter().flatten().collect()
+}
+
 #[cfg(test)]
 mod tests {
     use super::*;
@@ -231,9 +243,17 @@ mod tests {
     }
 
     #[test]
+    fn what_is_narrower_lacks_an_end_and_has_a_value() {
+        assert_eq!(narrower((-2, 2)), [(-1, 2), (-2, 1)]);
+        assert_eq!(narrower((0, 0)), [(1, 1), (-1, -1)]);
+        assert_eq!(narrower((MAX, MAX)), [(MAX - 1, MAX - 1)]);
+        assert_eq!(narrower(FULL), [(MIN + 1, MAX), (MIN, MAX - 1)]);
+    }
+
+    #[test]
     fn children_go_before_their_parents_and_from_left_to_right() {
         let mut nodes = Vec::new();
-        let tree = choice(less(var(3), num(7)), negation(input(-1, 1)), raw(9, [4.into()]));
+        let tree = choice(less(var(3), num(7)), negation(input(-1, 1)), raw(10, [4.into()]));
         assert_eq!(flatten(&tree, &mut nodes), 6);
         let wanted = [
             [2, 3, 0, 0],
@@ -241,7 +261,7 @@ mod tests {
             [16, 0, 1, 0],
             [1, -1, 1, 0],
             [3, 3, 0, 0],
-            [9, 4, 0, 0],
+            [10, 4, 0, 0],
             [8, 2, 4, 5],
         ];
         assert_eq!(nodes, wanted);

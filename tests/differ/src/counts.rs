@@ -1,6 +1,7 @@
 //! What the cases reached, by the peer's answers.
 
 use crate::answers::Answer;
+use peer::table::{Node, Table};
 use peer::words::{trade, Refusal as PeerRefusal};
 use peer::State;
 
@@ -13,6 +14,8 @@ pub struct Counts {
     accepted: usize,
     alarms: [usize; 2],
     stops: [usize; 2],
+    /// Tables with a remainder, and the alarms and stops at one.
+    remainders: [usize; 3],
     pub wrong: usize,
 }
 
@@ -37,6 +40,28 @@ impl Counts {
         }
     }
 
+    /// How far the cases reach remainders.
+    pub fn remainders(
+        &mut self,
+        table: &[i32],
+        checked: &Answer<i32>,
+        played: &Result<State, PeerRefusal>,
+    ) {
+        let Ok(table) = Table::decode(table) else { return };
+        let is_remainder = |node: &Node| matches!(node, Node::Remainder(..));
+        let at_one = |node: i32| is_remainder(&table.nodes[node as usize]);
+        self.remainders[0] += usize::from(table.nodes.iter().any(is_remainder));
+        if let Ok(count) = checked.said {
+            let pairs = checked.slice().chunks_exact(2).take(count);
+            self.remainders[1] += pairs.filter(|pair| at_one(pair[0])).count();
+        }
+        if let Ok(state) = played {
+            let stops = state.stop_nodes.iter().zip(state.stop_kinds);
+            let stops = stops.filter(|&(&node, kind)| kind != 0 && at_one(node));
+            self.remainders[2] += stops.count();
+        }
+    }
+
     pub fn print(&self) {
         for (rule, count) in (1..).zip(self.refused) {
             println!("refused {rule} {}: {count}", trade(rule));
@@ -45,6 +70,8 @@ impl Counts {
         println!("accepted: {}", self.accepted);
         println!("alarms: overflow {}, zero {}", self.alarms[0], self.alarms[1]);
         println!("stops: overflow {}, zero {}", self.stops[0], self.stops[1]);
+        let [tables, alarms, stops] = self.remainders;
+        println!("remainders: in {tables} tables, {alarms} alarms, {stops} stops");
         println!("differ: {} cases, {} wrong", self.cases, self.wrong);
     }
 }

@@ -1,12 +1,13 @@
-//! Families of cases: for each sentence of document 01 some with the answer
-//! written out, and drawn ones whose answer is the peer's. Whole answers are
-//! compared, and every word of a lent slice.
+//! Families of cases: for each sentence of document 01 and of request 1 some
+//! with the answer written out, and drawn ones whose answer is the peer's. Whole
+//! answers are compared, and every word of a lent slice.
 
 mod checks;
 mod claim;
 mod draw;
 mod lines;
 mod program;
+mod remainders;
 mod rooms;
 mod runs;
 mod tables;
@@ -29,6 +30,7 @@ const FAMILIES: &[(&str, Family)] = &[
     ("program", program::run),
     ("lines", lines::run),
     ("trees", trees::run),
+    ("remainders", remainders::run),
     ("tower", tower::run),
 ];
 
@@ -68,11 +70,12 @@ impl Tally {
         }
     }
 
-    /// It is wrong if there was none of this sort.
-    pub fn expect(&mut self, sort: &str) {
-        if !self.counts.contains_key(&(sort.len(), sort.to_string())) {
+    /// It is wrong if there were fewer of this sort.
+    pub fn expect(&mut self, sort: &str, least: usize) {
+        let count = *self.counts.get(&(sort.len(), sort.to_string())).unwrap_or(&0);
+        if count < least {
             self.wrong += 1;
-            println!("{}: no {sort}", self.family);
+            println!("{}: {sort}: {count}, not {least} or more", self.family);
         }
     }
 

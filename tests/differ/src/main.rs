@@ -79,6 +79,7 @@ fn compare(counts: &mut Counts, case: &Case, room: usize) {
     let ran = Answer::run_by_peer(&played, room);
     counts.check(&checked);
     counts.run(&ran, &played);
+    counts.remainders(&case.table, &checked, &played);
     let check = Answer::check(&case.table, &case.proposal, case.room);
     let run = Answer::run(&case.table, &case.schedule, room);
     let mut found = differences("check", &check, &checked);

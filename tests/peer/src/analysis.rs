@@ -94,6 +94,10 @@ pub fn arithmetic(
             let (a, b) = operands!(a, b);
             a.quotient(b)
         }
+        Node::Remainder(a, b) => {
+            let (a, b) = operands!(a, b);
+            a.remainder(b)
+        }
         Node::Choice { condition: asked, then, otherwise } => {
             // A branch that the condition shuts out raises no alarm either.
             let truth = condition(nodes, asked, row, alarms)?;
@@ -202,6 +206,34 @@ mod tests {
             Node::Sum(2, 5),
         ];
         assert_eq!(evaluated(&nodes, &[]), (None, vec![[2, 2], [5, 1]]));
+    }
+
+    #[test]
+    fn a_remainder_alarms_for_zero_alone_and_not_where_an_operand_has_none() {
+        // (input -3..100 % 8) % v: no product, so no overflow.
+        let nodes = [
+            Node::Input(of(-3, 100)),
+            Node::Constant(8),
+            Node::Remainder(0, 1),
+            Node::Variable(0),
+            Node::Remainder(2, 3),
+        ];
+        assert_eq!(evaluated(&nodes, &[of(-5, -5)]), (Some(of(-3, 4)), vec![]));
+        assert_eq!(evaluated(&nodes, &[of(-5, 0)]), (Some(of(-3, 4)), vec![[4, 2]]));
+        assert_eq!(evaluated(&nodes, &[of(0, 0)]), (None, vec![[4, 2]]));
+        // v % (1 % 0) and (1 % 0) % v
+        let none = |a, b| {
+            [
+                Node::Variable(0),
+                Node::Constant(1),
+                Node::Constant(0),
+                Node::Remainder(1, 2),
+                Node::Remainder(a, b),
+            ]
+        };
+        for nodes in [none(0, 3), none(3, 0)] {
+            assert_eq!(evaluated(&nodes, &[of(0, 9)]), (None, vec![[3, 2]]));
+        }
     }
 
     #[test]

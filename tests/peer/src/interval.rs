@@ -115,7 +115,7 @@ impl Interval {
         let corners = |c: i64, d: i64| span([a / c, a / d, b / c, b / d]);
         let below = (c < 0).then(|| corners(c, d.min(-1)));
         let above = (d > 0).then(|| corners(c.max(1), d));
-        let zero = if divisor.holds(0) { ZERO } else { 0 };
+        let zero = divisor.zero();
         let (least, greatest) = match (below, above) {
             (Some(p), Some(q)) => (p.0.min(q.0), p.1.max(q.1)),
             (Some(part), None) | (None, Some(part)) => part,
@@ -123,6 +123,32 @@ impl Interval {
         };
         let computed = cut(least, greatest);
         Computed { alarms: computed.alarms | zero, ..computed }
+    }
+
+    /// A remainder has the dividend's sign, is no further from 0 than the
+    /// dividend and nearer than the divisor, so that it never leaves 32 bits.
+    /// That is all the ends say: those of single values aren't the exact result.
+    #[inline]
+    pub fn remainder(self, divisor: Interval) -> Computed {
+        let (a, b) = self.wide();
+        let (c, d) = divisor.wide();
+        let most = c.abs().max(d.abs()) - 1;
+        let interval = (most >= 0).then(|| {
+            let low = if a < 0 { a.max(-most) } else { 0 };
+            let high = if b > 0 { b.min(most) } else { 0 };
+            Interval::ordered(low as i32, high as i32)
+        });
+        Computed { interval, alarms: divisor.zero() }
+    }
+
+    /// The alarm of a division by this interval.
+    #[inline]
+    fn zero(self) -> u8 {
+        if self.holds(0) {
+            ZERO
+        } else {
+            0
+        }
     }
 
     #[inline]
@@ -299,6 +325,83 @@ mod tests {
                 assert_eq!(a.cut_at_most(b), kept(&|x, y| x <= y));
                 assert_eq!(a.cut_equal(b), kept(&|x, y| x == y));
                 assert_eq!(a.cut_not_equal(b), kept(&|x, y| x != y));
+            }
+        }
+    }
+
+    #[test]
+    fn the_requests_sentences_on_remainders() {
+        let (min, max) = (i32::MIN, i32::MAX);
+        for (a, b, ends, alarms) in [
+            // Zero is the only alarm, also where a quotient would overflow.
+            ((min, min), (-1, -1), Some((0, 0)), 0),
+            ((min, max), (-1, 1), Some((0, 0)), ZERO),
+            ((-7, 7), (-2, 3), Some((-2, 2)), ZERO),
+            // Ends by the greatest magnitude, at either end of the divisor.
+            ((5, 5), (3, 3), Some((0, 2)), 0),
+            ((5, 5), (-3, 1), Some((0, 2)), ZERO),
+            ((0, 100), (12, 12), Some((0, 11)), 0),
+            ((3, 4), (5, 9), Some((0, 4)), 0),
+            ((-3, 100), (8, 8), Some((-3, 7)), 0),
+            ((-100, 3), (-8, -8), Some((-7, 3)), 0),
+            // A dividend on one side of 0, or with an end there.
+            ((-9, -5), (2, 4), Some((-3, 0)), 0),
+            ((-9, 0), (2, 4), Some((-3, 0)), 0),
+            ((0, 9), (-4, -2), Some((0, 3)), 0),
+            ((0, 0), (7, 7), Some((0, 0)), 0),
+            // The magnitude of MIN, less 1, is MAX.
+            ((min, max), (min, min), Some((-max, max)), 0),
+            ((min, min), (min, max), Some((-max, 0)), ZERO),
+            ((min, max), (0, max), Some((1 - max, max - 1)), ZERO),
+            // A divisor of only 0.
+            ((5, 5), (0, 0), None, ZERO),
+            ((0, 0), (0, 0), None, ZERO),
+            ((min, max), (0, 0), None, ZERO),
+        ] {
+            let (a, b) = (of(a.0, a.1), of(b.0, b.1));
+            assert_eq!(a.remainder(b), computed(ends, alarms), "{a:?} by {b:?}");
+        }
+    }
+
+    /// Members of an interval: all of a small one, else its ends and those by
+    /// which signs and remainders turn.
+    fn members(interval: Interval) -> Vec<i64> {
+        let (low, high) = interval.wide();
+        if high - low < 16 {
+            return (low..=high).collect();
+        }
+        [low, -1, 0, 1, high].into_iter().filter(|m| (low..=high).contains(m)).collect()
+    }
+
+    /// All pairs of small intervals and of those with ends at the limits: no
+    /// exact result is missed, zero and none come exactly where they should,
+    /// and the ends are the request's, with D from the divisor's members.
+    #[test]
+    fn remainders_against_their_members() {
+        let (min, max) = (i32::MIN, i32::MAX);
+        let small: Vec<i32> = (-7..=7).collect();
+        let grid = [min, min + 1, -7, -1, 0, 1, 2, 7, max - 1, max];
+        let spans = |ends: &[i32]| -> Vec<Interval> {
+            let pairs = ends.iter().flat_map(|&l| ends.iter().map(move |&h| (l, h)));
+            pairs.filter_map(|(low, high)| Interval::new(low, high)).collect()
+        };
+        let all = [spans(&small), spans(&grid)].concat();
+        for &a in &all {
+            for &b in &all {
+                let (xs, ys) = (members(a), members(b));
+                let divisors = || ys.iter().filter(|&&y| y != 0);
+                let exact: Vec<i64> =
+                    xs.iter().flat_map(|x| divisors().map(move |y| x % y)).collect();
+                let remainder = a.remainder(b);
+                let zero = if ys.contains(&0) { ZERO } else { 0 };
+                assert_eq!(remainder.alarms, zero, "{a:?} by {b:?}");
+                assert_eq!(remainder.interval.is_none(), exact.is_empty(), "{a:?} by {b:?}");
+                let Some(interval) = remainder.interval else { continue };
+                let ((low, high), (least, greatest)) = (a.wide(), interval.wide());
+                assert!(exact.iter().all(|r| (least..=greatest).contains(r)), "{a:?} by {b:?}");
+                let most = ys.iter().map(|y| y.abs()).max().unwrap() - 1;
+                assert_eq!(least, if low < 0 { low.max(-most) } else { 0 }, "{a:?} by {b:?}");
+                assert_eq!(greatest, if high > 0 { high.min(most) } else { 0 }, "{a:?} by {b:?}");
             }
         }
     }

@@ -26,6 +26,7 @@ pub enum Node {
     Product(u16, u16),
     Quotient(u16, u16),
     Choice { condition: u16, then: u16, otherwise: u16 },
+    Remainder(u16, u16),
     Less(u16, u16),
     AtMost(u16, u16),
     Equal(u16, u16),
@@ -74,7 +75,8 @@ impl Node {
             | Node::Difference(..)
             | Node::Product(..)
             | Node::Quotient(..)
-            | Node::Choice { .. } => Sort::Arithmetic,
+            | Node::Choice { .. }
+            | Node::Remainder(..) => Sort::Arithmetic,
             Node::Less(..)
             | Node::AtMost(..)
             | Node::Equal(..)
@@ -178,7 +180,7 @@ impl Forest {
             1 if c == 0 => Node::Input(Interval::new(a, b)?),
             2 if b == 0 && c == 0 => Node::Variable(number(a, variables)? as u8),
             3 if b == 0 && c == 0 => Node::Negation(self.used(a, Arithmetic)?),
-            4..=7 | 16..=19 if c == 0 => {
+            4..=7 | 9 | 16..=19 if c == 0 => {
                 let a = self.used(a, Arithmetic)?;
                 let b = self.used(b, Arithmetic)?;
                 match kind {
@@ -186,6 +188,7 @@ impl Forest {
                     5 => Node::Difference(a, b),
                     6 => Node::Product(a, b),
                     7 => Node::Quotient(a, b),
+                    9 => Node::Remainder(a, b),
                     16 => Node::Less(a, b),
                     17 => Node::AtMost(a, b),
                     18 => Node::Equal(a, b),
@@ -286,8 +289,10 @@ mod tests {
     fn nodes() {
         let assign = "1 1 2 0";
         assert!(with_nodes(assign, ["1 -3 3 0", "2 1 0 0", "7 1 0 0"]).is_ok());
+        assert!(with_nodes(assign, ["1 -3 3 0", "2 1 0 0", "9 1 0 0"]).is_ok());
         for (bad, place) in [
             (["9 0 0 0", "2 1 0 0", "7 1 0 0"], 0),
+            (["10 0 0 0", "2 1 0 0", "7 1 0 0"], 0),
             (["-1 0 0 0", "2 1 0 0", "7 1 0 0"], 0),
             (["23 0 0 0", "2 1 0 0", "7 1 0 0"], 0),
             (["15 0 0 0", "2 1 0 0", "7 1 0 0"], 0),
@@ -300,6 +305,11 @@ mod tests {
             (["0 0 0 0", "3 0 0 1", "7 1 0 0"], 1),
             (["0 0 0 0", "22 0 0 0", "7 1 0 0"], 1),
             (["0 0 0 0", "0 0 0 0", "7 1 0 1"], 2),
+            (["0 0 0 0", "0 0 0 0", "9 1 0 1"], 2),
+            (["0 0 0 0", "0 0 0 0", "9 1 2 0"], 2),
+            (["0 0 0 0", "0 0 0 0", "9 -1 0 0"], 2),
+            (["0 0 0 0", "18 0 0 0", "9 0 1 0"], 2),
+            (["0 0 0 0", "18 0 0 0", "9 1 0 0"], 2),
             (["0 0 0 0", "0 0 0 0", "20 1 0 0"], 2),
             (["0 0 0 0", "0 0 0 0", "8 0 1 0"], 2),
             (["0 0 0 0", "0 0 0 0", "4 2 0 0"], 2),
@@ -320,6 +330,8 @@ mod tests {
             assert_eq!(with_nodes(bad, sum).unwrap_err(), (5, 0), "{bad}");
         }
         assert_eq!(with_nodes("1 0 2 0", less).unwrap_err(), (5, 0));
+        let remainder = ["0 1 0 0", "2 1 0 0", "9 1 0 0"];
+        assert_eq!(with_nodes("2 2 0 0", remainder).unwrap_err(), (5, 0));
         assert_eq!(with_nodes("2 2 0 1", less).unwrap_err(), (5, 0));
         assert_eq!(with_nodes("0 0 0 0", sum).unwrap_err(), (6, 2));
         assert_eq!(with_nodes("1 0 2 0", ["0 1 0 0", "0 1 0 0", "4 0 0 0"]).unwrap_err(), (6, 0));

@@ -35,6 +35,12 @@ impl Check {
         Check { table: table.into(), proposal: proposal.into(), answer, wanted }
     }
 
+    /// One whose answer is given by what it means.
+    pub fn wanting(table: Vec<i32>, proposal: Vec<i32>, wanted: Wanted) -> Check {
+        let answer = printed(&Answer::check_by_hand(&wanted, ALARM_WORDS));
+        Check { table, proposal, answer, wanted }
+    }
+
     /// One that nobody wrote an answer for.
     pub fn by_peer(table: Vec<i32>, proposal: Vec<i32>) -> Check {
         let answer = printed(&Answer::check_by_peer(&table, &proposal, ALARM_WORDS));

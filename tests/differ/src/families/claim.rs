@@ -8,7 +8,7 @@ use crate::answers::{differences, Answer};
 use peer::analysis::Ends;
 use peer::check::Proposal;
 use peer::generate::{table, Draft, Random};
-use peer::table::Table;
+use peer::table::{Node, Table};
 use peer::words::ALARM_WORDS;
 use rangecheck::STATE_WORDS;
 use std::path::Path;
@@ -42,6 +42,12 @@ impl State<'_> {
             stop_nodes: &words[32..40],
             stop_kinds: &words[40..48],
         }
+    }
+
+    /// The nodes at which tasks have stopped.
+    fn stops(&self) -> impl Iterator<Item = usize> + '_ {
+        let stops = self.stop_nodes.iter().zip(self.stop_kinds).filter(|(_, &kind)| kind != 0);
+        stops.map(|(&node, _)| node as usize)
     }
 
     fn lies_in(&self, row: Ends) -> bool {
@@ -129,8 +135,9 @@ pub fn run(_bin: &Path, tally: &mut Tally) {
         }
     }
     // Else little was asked of the states.
-    tally.expect("proposals with alarms");
-    tally.expect("states with a stopped task");
+    tally.expect("proposals with alarms", 1);
+    tally.expect("states with a stopped task", 1);
+    tally.expect("states with a stop at a remainder", 1);
 }
 
 /// Plays schedules of an accepted proposal.
@@ -156,8 +163,12 @@ fn play(
             let state = State::new(run.slice());
             let mut found = accepted.broken(&state);
             found.extend(differences("run", &run, &by_peer));
-            if state.stop_kinds.iter().any(|&kind| kind != 0) {
+            if state.stops().count() > 0 {
                 tally.count("states with a stopped task");
+            }
+            let is_remainder = |node| matches!(decoded.nodes.get(node), Some(Node::Remainder(..)));
+            if state.stops().any(is_remainder) {
+                tally.count("states with a stop at a remainder");
             }
             tally.case(found, || on(words));
         }

@@ -21,16 +21,13 @@ fn around(tree: Tree, rests: &[Ends], wanted: Wanted) -> Check {
     let table = table(&[1], &[0], rests.len() as i32, &[assign(0, tree, 0)]);
     let rests: Vec<Row> = rests.iter().map(|&ends| vec![ends]).collect();
     let proposal = proposal(1, &[0], &rests, &rows(1, &[FULL]), &[([0, 0, 0], FULL)]);
-    Check::new(table, proposal, printed(&wanted))
-}
-
-fn printed(wanted: &Wanted) -> String {
-    checks::printed(&Answer::check_by_hand(wanted, ALARM_WORDS))
+    Check::wanting(table, proposal, wanted)
 }
 
 /// So many operations, each on the variable and the one before. Where every
 /// value is possible, each can overflow and give every value, and a quotient
-/// can be by 0 too.
+/// can be by 0 too. A remainder can only be by 0: its interval is narrower, but
+/// holds 0 for the next.
 fn chain(kind: i32, count: i32, left: bool) -> Tree {
     let more = |tree, _| match left {
         true => binary(kind, tree, var(0)),
@@ -41,7 +38,11 @@ fn chain(kind: i32, count: i32, left: bool) -> Tree {
 
 fn chain_alarms(kind: i32, count: i32, left: bool) -> Vec<[i32; 2]> {
     let node = |k: i32| if left { 2 * k } else { count + k };
-    let kinds = if kind == 7 { 1..=2 } else { 1..=1 };
+    let kinds = match kind {
+        7 => 1..=2,
+        9 => 2..=2,
+        _ => 1..=1,
+    };
     (1..=count).flat_map(|k| kinds.clone().map(move |kind| [node(k), kind])).collect()
 }
 
@@ -55,7 +56,7 @@ fn longest(left: bool) -> Check {
 
 fn chains(left: bool) -> Vec<Check> {
     let mut cases = Vec::new();
-    for kind in 4..=7 {
+    for kind in [4, 5, 6, 7, 9] {
         for count in [1, 2, 3, 5, 17, 100, 256, 400, 510, 511] {
             let alarms = chain_alarms(kind, count, left);
             cases.push(around(chain(kind, count, left), &[], Ok(alarms)));

@@ -78,10 +78,14 @@ fn state(points: &[i32], values: &[i32], owners: &[i32], stops: &[(i32, i32)]) -
 /// Of a task that hasn't stopped.
 const NONE: (i32, i32) = (-1, 0);
 
+/// The schedule leads to that state.
+fn played(table: &[i32], schedule: &[i32], wanted: State) -> Run {
+    Run { table: table.to_vec(), schedule: schedule.to_vec(), wanted: Ok(wanted) }
+}
+
 /// One task that assigns a tree to variable 0 and ends.
 fn one(tree: Tree, schedule: &[i32], wanted: State) -> Run {
-    let table = table(&[2], &[0, 0], 0, &[assign(0, tree, 1), end()]);
-    Run { table, schedule: schedule.to_vec(), wanted: Ok(wanted) }
+    played(&table(&[2], &[0, 0], 0, &[assign(0, tree, 1), end()]), schedule, wanted)
 }
 
 /// That task has assigned the value.
@@ -112,11 +116,7 @@ fn refused_and_started() -> Vec<Run> {
         wanted: Err((rule, place)),
     };
     // The start; a number that is no task, an ended task.
-    let stays = |schedule: &[i32]| Run {
-        table: small.clone(),
-        schedule: schedule.to_vec(),
-        wanted: Ok(state(&[0], &[0], &[], &[NONE])),
-    };
+    let stays = |schedule: &[i32]| played(&small, schedule, state(&[0], &[0], &[], &[NONE]));
     vec![
         refused(&[], 1, 0),
         refused(&small[..10], 1, 10),
@@ -132,13 +132,28 @@ fn inputs() -> Vec<Run> {
     vec![run(&[0, 3], 3), run(&[0, 6], -2), run(&[0, -3], -2), run(&[0, 5], 5), run(&[0], -2)]
 }
 
-/// Cut towards zero, and their errors at the node.
+/// Cut towards zero, remainders with the dividend's sign, and their errors at
+/// the node.
 fn operations() -> Vec<Run> {
     vec![
         one(quotient(num(-7), num(2)), &[0], done(-3)),
         one(quotient(num(7), num(-2)), &[0], done(-3)),
         one(quotient(num(MIN), num(-1)), &[0, 0], stuck(2, 1)),
         one(quotient(num(1), num(0)), &[0], stuck(2, 2)),
+        one(remainder(num(7), num(3)), &[0], done(1)),
+        one(remainder(num(7), num(-3)), &[0], done(1)),
+        one(remainder(num(-7), num(3)), &[0], done(-1)),
+        one(remainder(num(-7), num(-3)), &[0], done(-1)),
+        one(remainder(num(6), num(-3)), &[0], done(0)),
+        one(remainder(num(MIN), num(MAX)), &[0], done(-1)),
+        one(remainder(num(MAX), num(MIN)), &[0], done(MAX)),
+        one(remainder(num(MIN), num(MIN)), &[0], done(0)),
+        // MIN by -1 gives 0, and what it stands in goes on.
+        one(remainder(num(MIN), num(-1)), &[0], done(0)),
+        one(sum(remainder(num(MIN), num(-1)), num(5)), &[0], done(5)),
+        one(remainder(num(1), num(0)), &[0], stuck(2, 2)),
+        one(remainder(num(MIN), num(0)), &[0, 0], stuck(2, 2)),
+        one(remainder(num(0), num(0)), &[0], stuck(2, 2)),
         one(negation(num(MIN)), &[0], stuck(1, 1)),
         one(negation(num(MAX)), &[0], done(-MAX)),
         one(sum(num(MAX), num(1)), &[0], stuck(2, 1)),
@@ -151,11 +166,19 @@ fn operations() -> Vec<Run> {
 fn order_of_evaluation() -> Vec<Run> {
     let digit = || input(0, 9);
     let asked = |otherwise| choice(less(num(1), digit()), digit(), otherwise);
+    let divides = assign(0, sum(remainder(num(9), digit()), digit()), 0);
+    let divides = table(&[1, 2], &[3, 0], 0, &[divides, assign(1, num(8), 2), end()]);
     vec![
         // Left to right; the first error ends the evaluation, so that 4 is a
         // task word and not an input.
         one(difference(digit(), digit()), &[0, 7, 4], done(3)),
+        one(remainder(digit(), digit()), &[0, 9, 5], done(4)),
+        one(remainder(digit(), digit()), &[0, 5, 0], stuck(2, 2)),
         one(sum(negation(num(MIN)), digit()), &[0, 4], stuck(1, 1)),
+        one(remainder(remainder(num(1), num(0)), digit()), &[0, 4], stuck(2, 2)),
+        // 1 is an input after a remainder, and task 1's word after one by 0.
+        played(&divides, &[0, 5, 1], state(&[0, 1], &[5, 0], &[], &[NONE, NONE])),
+        played(&divides, &[0, 0, 1], state(&[0, 2], &[3, 8], &[], &[(2, 2), NONE])),
         // Both sides always, of a choice one branch.
         one(asked(digit()), &[0, 5, 6], done(6)),
         one(asked(input(10, 19)), &[0, 1, 12], done(12)),
@@ -163,11 +186,6 @@ fn order_of_evaluation() -> Vec<Run> {
 }
 
 fn tests_and_locks() -> Vec<Run> {
-    let run = |table: &[i32], schedule: &[i32], wanted| Run {
-        table: table.to_vec(),
-        schedule: schedule.to_vec(),
-        wanted: Ok(wanted),
-    };
     let tests = test(at_most(var(0), input(0, 9)), 1, 2);
     let tests = table(&[3], &[7, 0], 0, &[tests, end(), end()]);
     let tested = |point| state(&[point], &[7, 0], &[], &[NONE]);
@@ -179,18 +197,18 @@ fn tests_and_locks() -> Vec<Run> {
     let stops = table(&[2, 1], &[0], 1, &stops);
     vec![
         // A test that holds and one that does not.
-        run(&tests, &[0, 7], tested(1)),
-        run(&tests, &[0, 6], tested(2)),
+        played(&tests, &[0, 7], tested(1)),
+        played(&tests, &[0, 6], tested(2)),
         // An unlock by a non-owner, a lock that is taken by another and by the
         // task itself, an unlock by the owner.
-        run(&locks, &[1], locked(0, -1)),
-        run(&locks, &[0], locked(1, 0)),
-        run(&locks, &[0, 1, 0], locked(2, -1)),
-        run(&locks, &[0, 1, 1], locked(1, 0)),
-        run(&twice, &[0, 0, 0], state(&[1], &[0], &[0], &[NONE])),
+        played(&locks, &[1], locked(0, -1)),
+        played(&locks, &[0], locked(1, 0)),
+        played(&locks, &[0, 1, 0], locked(2, -1)),
+        played(&locks, &[0, 1, 1], locked(1, 0)),
+        played(&twice, &[0, 0, 0], state(&[1], &[0], &[0], &[NONE])),
         // An error stops the task at its point with its locks, and the others
         // go on.
-        run(&stops, &[0, 0, 0, 1, 1], state(&[1, 2], &[0], &[0], &[(1, 1), NONE])),
+        played(&stops, &[0, 0, 0, 1, 1], state(&[1, 2], &[0], &[0], &[(1, 1), NONE])),
     ]
 }
 

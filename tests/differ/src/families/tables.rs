@@ -162,7 +162,7 @@ fn shares() -> Vec<Case> {
 fn nodes() -> Vec<Case> {
     let mut cases = Vec::new();
     for at in [0, 8, 16] {
-        for kind in [-1, 9, 15, 23, MAX] {
+        for kind in [-1, 10, 11, 12, 13, 14, 15, 23, MAX] {
             cases.push((with_node(at, [kind, 0, 0, 0]), Some((4, at))));
         }
     }
@@ -176,6 +176,13 @@ fn nodes() -> Vec<Case> {
         (4, [3, 4, 0, 0]),
         (4, [3, 5, 0, 0]),
         (2, [4, 0, 2, 0]),
+        (2, [9, 0, 1, 1]),
+        (2, [9, 0, 1, MIN]),
+        (2, [9, 0, 2, 0]),
+        (2, [9, 2, 1, 0]),
+        (2, [9, -1, 1, 0]),
+        (13, [9, 10, 11, 0]),
+        (13, [9, 11, 10, 0]),
         (9, [20, 5, 7, 0]),
         (13, [8, 11, 11, 12]),
         (13, [8, 10, 11, 10]),
@@ -184,6 +191,8 @@ fn nodes() -> Vec<Case> {
     ] {
         cases.push((with_node(at, node), Some((4, at))));
     }
+    // A remainder in the place of a sum.
+    cases.push((with_node(2, [9, 0, 1, 0]), None));
     // A child of the right sort that another uses too.
     cases.push((with_node(16, [19, 14, 13, 0]), Some((6, 13))));
     cases
@@ -216,6 +225,8 @@ fn points() -> Vec<Case> {
     ] {
         cases.push((with_point(at, point), Some((5, at))));
     }
+    // A remainder in the place of the condition that point 3 tests.
+    cases.push((with_node(16, [9, 14, 15, 0]), Some((5, 3))));
     cases
 }
 
@@ -224,6 +235,7 @@ fn uses() -> Vec<Case> {
     vec![
         (with_node(2, [4, 1, 1, 0]), Some((6, 0))),
         (with_node(2, [4, 0, 0, 0]), Some((6, 0))),
+        (with_node(2, [9, 0, 0, 0]), Some((6, 0))),
         (with_node(8, [18, 6, 6, 0]), Some((6, 6))),
         (with_node(8, [18, 7, 7, 0]), Some((6, 6))),
         (with_point(1, [3, 0, 2, 0]), Some((6, 13))),

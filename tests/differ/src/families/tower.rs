@@ -1,13 +1,14 @@
 //! The tower of `examples/`, from the words that `tools/encode` writes: its
-//! verdicts and its runs, that no range of it can be narrower, and that the
-//! fault of `wrong.txt` is the one that is told.
+//! verdicts and its runs, that no range of it can be narrower, that the fault of
+//! `wrong.txt` is the one that is told, and that the alarm of `ring.txt` has no
+//! cause.
 
 use super::checks::Check;
 use super::runs::Run;
 use super::trees::{asked, operands};
 use super::Tally;
 use crate::answers::Answer;
-use crate::build::{end, raw, table, Point, Tree};
+use crate::build::{end, raw, table, Point, Tree, MAX, MIN};
 use peer::analysis::{arithmetic, narrow, Raised, Silent};
 use peer::check::Proposal;
 use peer::interval::Interval;
@@ -20,22 +21,29 @@ use std::path::Path;
 use std::process::Command;
 
 /// The texts, the lines that the printing program gives, and where each of the
-/// four tasks stops: its node and its kind.
-const TEXTS: [(&str, &str, [(i64, i64); 4]); 2] = [
-    (TOWER, "accepted 2;node 25 overflow;node 36 zero", [(-1, 0), (25, 1), (-1, 0), (36, 2)]),
+/// four tasks stops: its node and its kind. Where there is no task, both are 0.
+const TEXTS: [(&str, &str, [(i64, i64); 4]); 3] = [
+    (TOWER, "accepted 2;node 29 overflow;node 40 zero", [(-1, 0), (29, 1), (-1, 0), (40, 2)]),
     (WRONG, "refused 14 write at 19", [(15, 2), (-1, 0), (-1, 0), (-1, 0)]),
+    (RING, "accepted 1;node 7 overflow", [(-1, 0), (0, 0), (0, 0), (0, 0)]),
 ];
 const TOWER: &str = "tower.txt";
 const WRONG: &str = "wrong.txt";
+const RING: &str = "ring.txt";
+
+/// A whole turn.
+const TURN: i32 = 1_000_000_000;
 
 pub fn run(bin: &Path, tally: &mut Tally) {
     for (name, answer, stops) in TEXTS {
         verdict(bin, tally, name, answer);
         last_state(bin, tally, name, stops);
     }
-    narrowest(tally);
+    narrowest(tally, TOWER);
+    narrowest(tally, RING);
     locks_and_ways(tally);
     one_rule(tally);
+    no_cause(tally);
 }
 
 /// A table and a proposal or a schedule, and the bytes that they came in.
@@ -96,8 +104,8 @@ fn refused(table: &[i32], proposal: &[i32]) -> (u32, u32) {
 }
 
 /// With any end moved inwards by one, or any held word changed, it is refused.
-fn narrowest(tally: &mut Tally) {
-    let Given { table, other: proposal, .. } = encoded(&[], TOWER);
+fn narrowest(tally: &mut Tally, name: &str) {
+    let Given { table, other: proposal, .. } = encoded(&[], name);
     let heads = 4 + proposal[0] as usize;
     let lows = heads + 3 * proposal[3] as usize;
     let highs = (lows + proposal.len()) / 2;
@@ -105,7 +113,7 @@ fn narrowest(tally: &mut Tally) {
         let mut moved = proposal.clone();
         moved[at] += if at < highs { 1 } else { -1 };
         let (library, peer) = refused(&table, &moved);
-        let on = format!("{TOWER} with word {at} moved: {library} and {peer}");
+        let on = format!("{name} with word {at} moved: {library} and {peer}");
         compare(tally, "words moved", &on, (library != 0, peer), (true, library));
     }
 }
@@ -186,6 +194,22 @@ fn one_rule(tally: &mut Tally) {
     compare(tally, "the fault", &on, refused(&words, &proposal), (0, 0));
     let listed = list.is_ok_and(|list| list.chunks(2).all(|alarm| alarm[0] != 15));
     compare(tally, "the fault", &format!("{on}, its list"), listed, true);
+}
+
+/// By quotient and product the position is the one by remainder, and nothing
+/// stops, whatever the offset is: what the check lists there has no cause.
+fn no_cause(tally: &mut Tally) {
+    let table = encoded(&[], RING).table;
+    let turns = [-2 * TURN, -TURN, 0, TURN, 2 * TURN];
+    let near = turns.into_iter().flat_map(|turn| turn - 1..=turn + 1);
+    for offset in near.chain([MIN, MIN + 1, MAX - 1, MAX]) {
+        let state = Answer::run(&table, &[0, offset, 0, 0], STATE_WORDS);
+        let words = state.slice();
+        let position = i64::from(offset % TURN);
+        let on = format!("{RING} at {offset}");
+        let got = (words[9], words[10], words[40]);
+        compare(tally, "positions", &on, got, (position, position, 0));
+    }
 }
 
 /// A table with a point in the place of which its task ends.

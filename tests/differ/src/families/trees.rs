@@ -46,7 +46,7 @@ pub fn run(bin: &Path, tally: &mut Tally) {
         tally.case(case.differences(line), || format!("{:?}", case.words()));
     }
     for mode in ["value", "decision", "narrowed no", "narrowed yes"] {
-        tally.expect(&format!("{mode}{WITH_NONE}"));
+        tally.expect(&format!("{mode}{WITH_NONE}"), 1);
     }
     if let Some(line) = lines.next() {
         tally.case(vec![format!("printed once more: {line}")], || "all cases".to_string());
@@ -177,7 +177,7 @@ pub fn operands(kind: i32) -> &'static [Sort] {
     use Sort::{Arithmetic, Condition};
     match kind {
         3 => &[Arithmetic],
-        4..=7 | 16..=19 => &[Arithmetic, Arithmetic],
+        4..=7 | 9 | 16..=19 => &[Arithmetic, Arithmetic],
         8 => &[Condition, Arithmetic, Arithmetic],
         20 | 21 => &[Condition, Condition],
         22 => &[Condition],

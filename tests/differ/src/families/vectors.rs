@@ -4,8 +4,15 @@ use super::checks::Check;
 use super::runs::Run;
 use peer::words::parse;
 
-const CHECKS: &str = include_str!("../../../vectors/check.txt");
-const RUNS: &str = include_str!("../../../vectors/run.txt");
+/// The first ones, and those given with request 1.
+const CHECKS: [&str; 2] = [
+    include_str!("../../../vectors/check.txt"),
+    include_str!("../../../vectors/after-request-1/check.txt"),
+];
+const RUNS: [&str; 2] = [
+    include_str!("../../../vectors/run.txt"),
+    include_str!("../../../vectors/after-request-1/run.txt"),
+];
 
 pub fn checks() -> Vec<Check> {
     parts(CHECKS).map(|(table, proposal, answer)| Check::new(table, proposal, answer)).collect()
@@ -15,8 +22,10 @@ pub fn runs() -> Vec<Run> {
     parts(RUNS).map(|(table, schedule, answer)| Run::told(table, schedule, answer)).collect()
 }
 
-fn parts(text: &'static str) -> impl Iterator<Item = (Vec<i32>, Vec<i32>, &'static str)> {
-    text.lines().map(|line| {
+type Parts = (Vec<i32>, Vec<i32>, &'static str);
+
+fn parts(texts: [&'static str; 2]) -> impl Iterator<Item = Parts> {
+    texts.into_iter().flat_map(str::lines).map(|line| {
         let parts: Vec<&str> = line.split('|').map(str::trim).collect();
         let [first, second, answer] = parts[..] else { panic!("three parts: {line}") };
         let words = |text| parse(text).expect("words");

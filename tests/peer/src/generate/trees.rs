@@ -50,7 +50,7 @@ impl Trees {
             let c = self.arithmetic(random, otherwise);
             return self.push([8, a, b, c]);
         }
-        let kind = random.pick(&[4, 4, 5, 5, 6, 7, 7]);
+        let kind = random.pick(&[4, 4, 5, 5, 6, 7, 7, 9, 9]);
         let (left, right) = self.split(random, size - 1, 1);
         let a = self.arithmetic(random, left);
         let b = self.arithmetic(random, right);
@@ -121,7 +121,7 @@ impl Trees {
 pub fn children(node: &[i32; 4]) -> std::ops::Range<usize> {
     match node[0] {
         3 | 22 => 1..2,
-        4..=7 | 16..=21 => 1..3,
+        4..=7 | 9 | 16..=21 => 1..3,
         8 => 1..4,
         _ => 1..1,
     }

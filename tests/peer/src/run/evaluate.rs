@@ -55,11 +55,13 @@ impl<'a> Evaluation<'a> {
                 a.checked_mul(b)
             }
             Node::Quotient(a, b) => {
-                let (a, b) = self.operands(a, b)?;
-                if b == 0 {
-                    return Err((node, ZERO));
-                }
+                let (a, b) = self.division(node, a, b)?;
                 a.checked_div(b)
+            }
+            Node::Remainder(a, b) => {
+                let (a, b) = self.division(node, a, b)?;
+                // MIN by -1 is 0; the checked operation takes it for an error.
+                Some(a.wrapping_rem(b))
             }
             Node::Choice { condition, then, otherwise } => {
                 let branch = if self.condition(condition)? { then } else { otherwise };
@@ -94,6 +96,15 @@ impl<'a> Evaluation<'a> {
             Node::Not(a) => !self.condition(a)?,
             _ => unreachable!("arithmetic where the table has a condition"),
         })
+    }
+
+    /// The operands of a division at `node`, the second of which isn't 0.
+    #[inline]
+    fn division(&mut self, node: u16, a: u16, b: u16) -> Result<(i32, i32), Stop> {
+        match self.operands(a, b)? {
+            (_, 0) => Err((node, ZERO)),
+            operands => Ok(operands),
+        }
     }
 
     #[inline]

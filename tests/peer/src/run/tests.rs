@@ -86,6 +86,26 @@ fn the_first_error_ends_the_evaluation() {
 }
 
 #[test]
+fn remainders_take_their_words_from_left_to_right() {
+    // input -9..9 % input -9..9, + input 0..9
+    let nodes = ["1 -9 9 0", "1 -9 9 0", "9 0 1 0", "1 0 9 0", "4 2 3 0"];
+    let table = Table::decode(&parse(&assigning(4, &nodes)).unwrap()).unwrap();
+    let after = |schedule: &[i32]| {
+        let mut state = State::start(&table);
+        let at = state.step(&table, schedule, 0);
+        (at, state.values[0], (state.stop_nodes[0], state.stop_kinds[0]))
+    };
+    assert_eq!(after(&[0, -8, 3, 5]), (4, 3, (-1, 0)));
+    assert_eq!(after(&[0, 3, -8, 5]), (4, 8, (-1, 0)));
+    // By 0 both operands have used up their words, and the last input none.
+    assert_eq!(after(&[0, 3, 0, 5]), (3, 3, (2, 2)));
+    // An error in the dividend comes before the divisor's word.
+    let nodes = ["0 1 0 0", "0 0 0 0", "9 0 1 0", "1 0 9 0", "9 2 3 0"];
+    let state = played(&assigning(4, &nodes), "0 0 0");
+    assert_eq!((state.stop_nodes[0], state.stop_kinds[0], state.values[0]), (2, 2, 3));
+}
+
+#[test]
 fn exact_results() {
     let two = |kind: i32, a: i32, b: i32| {
         let nodes = [format!("0 {a} 0 0"), format!("0 {b} 0 0"), format!("{kind} 0 1 0")];
@@ -98,6 +118,19 @@ fn exact_results() {
     assert_eq!(two(7, min, -1), (3, 2, 1));
     assert_eq!(two(7, min, 0), (3, 2, 2));
     assert_eq!(two(7, 0, 0), (3, 2, 2));
+    // A remainder has the dividend's sign, and MIN by -1 is no error.
+    assert_eq!(two(9, 7, 2), (1, -1, 0));
+    assert_eq!(two(9, 7, -2), (1, -1, 0));
+    assert_eq!(two(9, -7, 2), (-1, -1, 0));
+    assert_eq!(two(9, -7, -2), (-1, -1, 0));
+    assert_eq!(two(9, 6, -3), (0, -1, 0));
+    assert_eq!(two(9, min, -1), (0, -1, 0));
+    assert_eq!(two(9, min, max), (-1, -1, 0));
+    assert_eq!(two(9, max, min), (max, -1, 0));
+    assert_eq!(two(9, min, min), (0, -1, 0));
+    assert_eq!(two(9, 7, 0), (3, 2, 2));
+    assert_eq!(two(9, min, 0), (3, 2, 2));
+    assert_eq!(two(9, 0, 0), (3, 2, 2));
     assert_eq!(two(4, max, 1), (3, 2, 1));
     assert_eq!(two(4, max, -1), (max - 1, -1, 0));
     assert_eq!(two(5, min, 1), (3, 2, 1));

@@ -1,17 +1,10 @@
--- `above` gives the corner quotients where its test holds, and then neither divisor is 0.
--- Assumes nothing.
-use mathlib.Core.Path.{sym, _∙_}
-use lib.IntN.{pos}
+-- `above` gives the corner quotients where its test holds. Assumes nothing.
 use mir.Facts.{toZ-ofZ}
 use borrow.Author.Needs.{needs}
 use Rattle.interval.specs.Arithmetic.{aboveOf}
-use Rattle.interval.proofs.IntegerLaws.{max-right, leZ-yes′, above-not-zero}
 use Rattle.interval.proofs.MachineArithmetic.{handed32}
 use Rattle.interval.proofs.arithmetic.above.Statement.{statement}
 use Rattle.interval.proofs.arithmetic.above.Tie as tie
-
-divides : tie.Need-quotients-requires
-divides c κs = (λ e. above-not-zero (max-right _ (pos 1)) (sym (handed32 (c .max32 .ensures) (c .max32 .ok)) ∙ e), above-not-zero (leZ-yes′ _ _ (c .before .if1 .taken)))
 
 returns : tie.Need-returns
 unfolding aboveOf
@@ -27,4 +20,4 @@ unfolding aboveOf
 empty c = let test = simp (toZ-ofZ, c .before .fits .d) at (c .if1 .left) in simp test
 
 pub above-spec : {M : Type 1} → statement M
-above-spec = tie.close (tie.spec (λ c κs. search needs) divides returns empty)
+above-spec = tie.close (tie.spec (λ c κs. search needs) (λ c κs. search needs) returns empty)

@@ -1,17 +1,10 @@
--- `below` gives the corner quotients where its test holds, and then neither divisor is 0.
--- Assumes nothing.
-use mathlib.Core.Path.{sym, _∙_}
-use lib.IntN.{negsuc}
+-- `below` gives the corner quotients where its test holds. Assumes nothing.
 use mir.Facts.{toZ-ofZ}
 use borrow.Author.Needs.{needs}
 use Rattle.interval.specs.Arithmetic.{belowOf}
-use Rattle.interval.proofs.IntegerLaws.{min-right, leZ-yes′, below-not-zero}
 use Rattle.interval.proofs.MachineArithmetic.{handed32}
 use Rattle.interval.proofs.arithmetic.below.Statement.{statement}
 use Rattle.interval.proofs.arithmetic.below.Tie as tie
-
-divides : tie.Need-quotients-requires
-divides c κs = (below-not-zero (leZ-yes′ _ _ (c .before .if1 .taken)), λ e. below-not-zero (min-right _ (negsuc 0)) (sym (handed32 (c .min32 .ensures) (c .min32 .ok)) ∙ e))
 
 returns : tie.Need-returns
 unfolding belowOf
@@ -27,4 +20,4 @@ unfolding belowOf
 empty c = let test = simp (toZ-ofZ, c .before .fits .c) at (c .if1 .left) in simp test
 
 pub below-spec : {M : Type 1} → statement M
-below-spec = tie.close (tie.spec (λ c κs. search needs) divides returns empty)
+below-spec = tie.close (tie.spec (λ c κs. search needs) (λ c κs. search needs) returns empty)

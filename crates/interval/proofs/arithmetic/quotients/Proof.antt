@@ -1,16 +1,9 @@
--- `quotients` gives the hull of the four corner quotients, whose divisors are not 0 by its `requires`.
--- Assumes nothing.
+-- `quotients` gives the hull of the four corner quotients. Assumes nothing.
 use mir.Facts.{toZ-ofZ}
 use borrow.Author.Needs.{needs}
 use Rattle.interval.proofs.MachineArithmetic.{handed64}
 use Rattle.interval.proofs.arithmetic.quotients.Statement.{statement}
 use Rattle.interval.proofs.arithmetic.quotients.Tie as tie
-
-by-c : tie.Need-over-requires
-by-c c κs = simp (toZ-ofZ, c .fits .c) (c .pre .0)
-
-by-d : tie.Need-over-requires-2
-by-d c κs = let s = c .before in simp (toZ-ofZ, s .fits .d) (s .pre .1)
 
 returns : tie.Need-returns
 returns c =
@@ -25,4 +18,4 @@ returns c =
 pub quotients-spec : {M : Type 1} → statement M
 quotients-spec =
     tie.close
-    (tie.spec by-c by-d (λ c κs. by-c (c .before .before) κs) (λ c κs. by-d (c .before .before) κs) (λ c κs. search needs) returns)
+    (tie.spec (λ c κs. search needs) (λ c κs. search needs) (λ c κs. search needs) (λ c κs. search needs) (λ c κs. search needs) returns)

@@ -49,6 +49,13 @@ quotient c =
     let f = told .before .before .fits in
     arm uncutOf (f .a) (f .b) (f .c) (f .d) (told .enum-told4 .given .1) (rw (c .either-part .ensures, c .before .before .below .ensures, c .before .above .ensures))
 
+remainder : tie.Need-returns-5
+unfolding uncutOf
+remainder c =
+    let told = c .before in
+    let f = told .before .before .fits in
+    arm uncutOf (f .a) (f .b) (f .c) (f .d) (told .enum-told5 .given .1) (c .remainders .ensures)
+
 pub uncut-spec : {M : Type 1} → statement M
 uncut-spec =
     tie.close
@@ -69,7 +76,10 @@ uncut-spec =
     (λ c κs. search needs)
     (λ c κs. search needs)
     (λ c κs. search needs)
+    (λ c. search needs)
+    (λ c κs. search needs)
     sum
     difference
     product
-    quotient)
+    quotient
+    remainder)

@@ -1,20 +1,10 @@
--- `interval_test::exact::over` meets its contract: the divisor's bits are not 0, since the divisor is not, and a quotient of an i32 fits an i64.
--- Assumes nothing.
-use Rattle.interval.proofs.Machine.{signed}
+-- `interval_test::exact::over` meets its contract: the divisor's bits are not 0, and a quotient of an i32 fits an i64. Assumes nothing.
+use Rattle.interval.proofs.Machine.{signed, division-fits}
 use Rattle.interval_test.proofs.exact.over.Statement.{statement}
 use Rattle.interval_test.proofs.exact.over.Tie as tie
 
-cast-result : tie.Need-cast-result
-cast-result c = search signed
-
-cast-result-2 : tie.Need-cast-result-2
-cast-result-2 c = search signed
-
-div-result : tie.Need-div-result
-div-result c = search signed
-
-returns : tie.Need-returns
-returns c = search signed
+divides : tie.Need-div-result
+divides c = let f = c .before .fits in division-fits (f .x) (f .y) (c .if1 .left)
 
 pub over-spec : {M : Type 1} → statement M
-over-spec = tie.close (tie.spec cast-result cast-result-2 div-result returns)
+over-spec = tie.close (tie.spec (λ c. search signed) (λ c. search signed) divides (λ c. search signed) (λ c. search signed))

@@ -29,9 +29,18 @@ product c =
     rw (c .fit3 .ensures, c .before .before .enum-told3 .given .1, handed64 (r .ensures) (r .ok), toZ-ofZ (f .a), toZ-ofZ (f .b))
 
 quotient : tie.Need-returns-4
+unfolding perform
 quotient c =
-    let f = c .before .before .before .fits in
-    rw (c .divide .ensures, c .before .enum-told4 .given .1, toZ-ofZ (f .a), toZ-ofZ (f .b))
+    let f = c .before .before .before .before .fits in
+    let r = c .before .over in
+    rw (c .divide .ensures, c .before .before .enum-told4 .given .1, handed64 (r .ensures) (r .ok), toZ-ofZ (f .a), toZ-ofZ (f .b))
+
+remainder : tie.Need-returns-5
+unfolding perform
+remainder c =
+    let f = c .before .before .before .before .fits in
+    let r = c .before .rem in
+    rw (c .divide2 .ensures, c .before .before .enum-told5 .given .1, handed64 (r .ensures) (r .ok), toZ-ofZ (f .a), toZ-ofZ (f .b))
 
 pub perform-spec : {M : Type 1} → statement M
 perform-spec =
@@ -48,7 +57,12 @@ perform-spec =
     (λ c κs. search needs)
     (λ c. search needs)
     (λ c κs. search needs)
+    (λ c κs. search needs)
+    (λ c. search needs)
+    (λ c κs. search needs)
+    (λ c κs. search needs)
     sum
     difference
     product
-    quotient)
+    quotient
+    remainder)

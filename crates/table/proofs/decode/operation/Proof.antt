@@ -1,15 +1,14 @@
--- `table::decode::operation` meets its contract: the arm of the match decides the tests of the kind. Assumes nothing.
-use borrow.Author.Tests.{ne-eqb}
-use Rattle.table.specs.Decode.{operationOf}
+-- `table::decode::operation` meets its contract: its test is the definition's. Assumes nothing.
+use borrow.Author.Needs.{needs}
+use Rattle.words.proofs.Bools.{holds, fails}
+use Rattle.table.proofs.DecodeLaws.{kept-yes, kept-no}
 use Rattle.table.proofs.decode.operation.Statement.{statement}
 use Rattle.table.proofs.decode.operation.Tie as tie
 
 pub operation-spec : {M : Type 1} → statement M
-unfolding operationOf
 operation-spec =
     tie.close
     (tie.spec
-    (λ c. rw (c .match .keys1))
-    (λ c. rw (c .match .keys2))
-    (λ c. rw (c .match .keys3))
-    (λ c. rw (ne-eqb _ 4 (c .match .rest .0 .0 .1), ne-eqb _ 5 (c .match .rest .0 .1), ne-eqb _ 6 (c .match .rest .1))))
+    (λ c κs. search needs)
+    (λ c. kept-yes (holds (c .before .both-below .ensures) (c .if1 .taken)))
+    (λ c. kept-no _ (fails (c .before .both-below .ensures) (c .if1 .left))))

@@ -1,6 +1,6 @@
 -- `table::formed::node_fields` meets its contract: a key of the match decides every test of the kind, and so does a range. Assumes nothing.
-use Prim.Native.Nat.{_≤_}
-use mathlib.Core.Path.{sym, _∙_}
+use Prim.Native.Nat.{ℕ, _≤_}
+use mathlib.Core.Path.{_≡_, sym, _∙_}
 use mathlib.Core.Logic.{⊎-elim}
 use native.Mathlib.Numerals.{lt-of-le-of-ne}
 use native.Mathlib.Omega.{arith}
@@ -11,17 +11,21 @@ use Rattle.table.proofs.FormedLaws.{binary-fields, compare-fields, both
 use Rattle.table.proofs.formed.node_fields.Statement.{statement}
 use Rattle.table.proofs.formed.node_fields.Tie as tie
 
--- 4 to 7, and the kinds that there are not
-binary : tie.Need-returns-7
-binary c =
-    let low : 4 ≤ c .before .before .before .args .k = omega arith in
-    rw (binary-fields _ low (c .before .if1 .taken)) (c .fields7 .ensures)
+-- a number that is none of the first keys
+from-four : {k : ℕ} → (((Unit {0} × (k ≡ 0 → ⊥)) × (k ≡ 1 → ⊥)) × (k ≡ 2 → ⊥)) × (k ≡ 3 → ⊥) → 4 ≤ k
+from-four h = omega arith
 
-other : tie.Need-returns-10
+-- 4 to 7, and the kinds that there are not
+binary : tie.Need-returns-8
+binary c =
+    rw (binary-fields _ (from-four (c .before .before .match .rest .0 .0 .0)) (c .before .if1 .taken)) (c .fields8 .ensures)
+
+other : tie.Need-returns-11
 other c =
     let no-key = c .before .before .before .match .rest in
-    let low = lt-of-le-of-ne (c .before .before .if1 .left) (λ e. no-key .0 .1 (sym e)) in
-    c .fields10 .ensures
+    let past-choice = lt-of-le-of-ne (c .before .before .if1 .left) (λ e. no-key .0 .0 .1 (sym e)) in
+    let low = lt-of-le-of-ne past-choice (λ e. no-key .0 .1 (sym e)) in
+    c .fields11 .ensures
     ∙ ⊎-elim
     (λ w. sym (between-fields _ low (w .taken)))
     (λ w. sym (past-fields _ (lt-of-le-of-ne (w .2 .left) (λ e. no-key .1 (sym e)))))
@@ -42,13 +46,15 @@ node-fields-spec =
     (λ c κs. search needs)
     (λ c κs. search needs)
     (λ c κs. search needs)
+    (λ c κs. search needs)
     (λ c. rw (c .before .match .keys1) (c .fields .ensures))
     (λ c. rw (c .before .match .keys2, c .fields2 .ensures, toZ-ofZ (c .before .before .fits .a)))
     (λ c. rw (c .before .match .keys3) (c .fields3 .ensures))
     (λ c. rw (c .before .match .keys4) (c .fields4 .ensures))
     (λ c. rw (c .before .match .keys5) (c .fields5 .ensures))
     (λ c. rw (c .before .match .keys6) (c .fields6 .ensures))
+    (λ c. rw (c .before .match .keys7) (c .fields7 .ensures))
     binary
-    (λ c. rw (compare-fields _ (c .before .before .if2 .left) (c .before .if3 .taken)) (c .fields8 .ensures))
-    (λ c. rw (both-fields _ (c .before .before .if3 .left) (c .before .if4 .taken)) (c .fields9 .ensures))
+    (λ c. rw (compare-fields _ (c .before .before .if2 .left) (c .before .if3 .taken)) (c .fields9 .ensures))
+    (λ c. rw (both-fields _ (c .before .before .if3 .left) (c .before .if4 .taken)) (c .fields10 .ensures))
     other)

@@ -1,5 +1,5 @@
 //! Document 01's examples, the errors that it lists, and its sentences on
-//! outcomes and alarms.
+//! outcomes and alarms; those of request 1 on remainders.
 
 use super::Check;
 use crate::build::*;
@@ -10,6 +10,8 @@ pub fn cases() -> Vec<Check> {
     errors_of_the_trade(&mut cases);
     outcomes(&mut cases);
     no_outcome(&mut cases);
+    remainders(&mut cases);
+    remainders_of_none(&mut cases);
     cases
 }
 
@@ -208,5 +210,72 @@ fn no_outcome(cases: &mut Vec<Check>) {
         let all = [vec![(0, 9)], vec![(5, 9)], vec![(0, 4)], vec![(0, 0)]];
         let given = proposal(1, &[0, 0, 0, -1], &[vec![rest]], &all, &[]);
         cases.push(Check::new(&*apart, given, answer));
+    }
+}
+
+/// What is written, and no less: a target's row or an entry that lacks an end
+/// is refused.
+fn remainders(cases: &mut Vec<Check>) {
+    let trees = [
+        (remainder(num(5), num(3)), (0, 0), (0, 2), "accepted 0"),
+        (remainder(num(MIN), num(-1)), (0, 0), (0, 0), "accepted 0"),
+        (remainder(v(), num(12)), (0, 100), (0, 11), "accepted 0"),
+        (remainder(v(), num(8)), (-3, 100), (-3, 7), "accepted 0"),
+        (remainder(v(), num(4)), (-9, -5), (-3, 0), "accepted 0"),
+        (remainder(input(3, 4), v()), (5, 9), (0, 4), "accepted 0"),
+        (remainder(input(-7, 7), v()), (-2, 3), (-2, 2), "accepted 1;node 2 zero"),
+        (remainder(input(MIN, MAX), v()), (MIN, MIN), (-MAX, MAX), "accepted 0"),
+        // The sum around it can overflow, and the remainder only be by 0.
+        (
+            sum(num(MAX), remainder(num(1), v())),
+            FULL,
+            (MAX, MAX),
+            "accepted 2;node 3 zero;node 4 overflow",
+        ),
+    ];
+    for (tree, span, written, accepted) in trees {
+        let table = table(&[2], &[span.0, 0], 0, &[assign(1, tree, 1), end()]);
+        let check = |target: Ends, entry: Ends, answer: &str| {
+            let all = [vec![span, (0, 0)], vec![span, target]];
+            let given = proposal(2, &[0, 0], &[], &all, &[([0, 0, 1], entry)]);
+            Check::new(&*table, given, answer)
+        };
+        cases.push(check(written, written, accepted));
+        for less in narrower(written) {
+            cases.push(check(less, written, "refused 13 flow at 0"));
+            cases.push(check(written, less, "refused 14 write at 0"));
+        }
+    }
+}
+
+/// By only 0, or of an operand with none: nothing is written, and of the latter
+/// there is no alarm at the remainder, though V can be 0.
+fn remainders_of_none(cases: &mut Vec<Check>) {
+    let none = || quotient(num(1), num(0));
+    let by_zero = || remainder(v(), num(0));
+    for (tree, answer) in [
+        (by_zero(), "accepted 1;node 2 zero"),
+        (remainder(v(), none()), "accepted 1;node 3 zero"),
+        (remainder(none(), v()), "accepted 1;node 2 zero"),
+        (remainder(none(), none()), "accepted 2;node 2 zero;node 5 zero"),
+        (remainder(by_zero(), v()), "accepted 1;node 2 zero"),
+    ] {
+        let table = table(&[2], &[0], 0, &[assign(0, tree, 1), end()]);
+        for held in [-1, 0] {
+            let given = proposal(1, &[0, held], &[], &rows(2, &[(0, 9)]), &[]);
+            cases.push(Check::new(&*table, given, answer));
+        }
+    }
+    // In a test: where the condition has none there is no way on.
+    let tests = [test(less(remainder(num(9), v()), num(9)), 1, 2), end(), end()];
+    let tests = table(&[3], &[0], 0, &tests);
+    for (row, held, answer) in [
+        ((0, 9), [0, 0, -1], "accepted 1;node 2 zero"),
+        ((0, 9), [0, -1, -1], "refused 12 locks at 0"),
+        ((0, 10), [0, 0, -1], "refused 12 locks at 0"),
+        ((0, 10), [0, 0, 0], "accepted 1;node 2 zero"),
+        ((0, 0), [0, -1, -1], "accepted 1;node 2 zero"),
+    ] {
+        cases.push(Check::new(&*tests, proposal(1, &held, &[], &rows(3, &[row]), &[]), answer));
     }
 }

@@ -178,7 +178,7 @@ fn faults() -> Vec<Fault> {
         Fault(2, 4, vec![Table(4, 1025)]),
         Fault(3, 1, vec![Table(6, 0)]),
         Fault(3, 3, vec![Table(7, 5)]),
-        Fault(4, 5, vec![Table(78, 9)]),
+        Fault(4, 5, vec![Table(78, 10)]),
         Fault(5, 7, vec![Table(38, 5)]),
         Fault(6, 9, vec![Table(56, 9)]),
         // 7 reach: of 102 words.
@@ -302,7 +302,7 @@ fn in_turn() -> Vec<Fault> {
         Fault(1, 105, vec![TableLength(105)]),
         Fault(3, 1, vec![Table(6, 0)]),
         Fault(3, 3, vec![Table(7, 5)]),
-        Fault(4, 5, vec![Table(78, 9)]),
+        Fault(4, 5, vec![Table(78, 10)]),
         Fault(5, 7, vec![Table(38, 5)]),
         Fault(6, 9, vec![Table(56, 9)]),
         Fault(7, 3, vec![Length(3)]),

@@ -1,22 +1,25 @@
 //! Trees on rows whose answers are written out: the document's own examples,
-//! one variable on both sides, none in every place, two levels of both, either
-//! and not, a choice under a condition under a choice, the longest chains.
+//! request 1's sentences on remainders, one variable on both sides, none in
+//! every place, two levels of both, either and not, a choice under a condition
+//! under a choice, the longest chains.
 
 use super::{Case, Mode};
 use crate::build::{
     at_most, binary, both, choice, difference, either, equal, input, less, negation, not,
-    not_equal, num, product, quotient, sum, var, Ends, Tree, MAX, MIN,
+    not_equal, num, product, quotient, remainder, sum, var, Ends, Tree, FULL, MAX, MIN,
 };
 
 /// The comparisons' kinds: less, at most, equal, not equal.
 const COMPARISONS: [i32; 4] = [16, 17, 18, 19];
 
-/// The operations' kinds: sum, difference, product, quotient.
-const OPERATIONS: [i32; 4] = [4, 5, 6, 7];
+/// The operations' kinds: sum, difference, product, quotient, remainder.
+const OPERATIONS: [i32; 5] = [4, 5, 6, 7, 9];
 
 pub fn cases() -> Vec<Case> {
     let mut list = List(Vec::new());
     examples(&mut list);
+    remainders(&mut list);
+    remainders_in_conditions(&mut list);
     comparisons(&mut list);
     one_variable_twice(&mut list);
     none_in_arithmetic(&mut list);
@@ -83,6 +86,69 @@ fn examples(list: &mut List) {
     list.value(&sides, &row, "-2147483647 2147483646 alarm 2 1 alarm 5 1");
     list.decision(&less(ten_by_v(), num(2)), &[(0, 5)], "0 1 alarm 2 2");
     list.decision(&at_most(ten_by_v(), num(2)), &[(0, 5)], "1 1 alarm 2 2");
+}
+
+/// Dividend and divisor as variables, and as inputs.
+fn remainders(list: &mut List) {
+    for (a, b, answer) in [
+        // By the greatest magnitude, less 1, and not the exact result.
+        ((5, 5), (3, 3), "0 2"),
+        ((5, 5), (-3, 2), "0 2 alarm 2 2"),
+        ((0, 100), (12, 12), "0 11"),
+        ((-7, 7), (-2, 3), "-2 2 alarm 2 2"),
+        // Ends of the dividend that lie nearer to 0.
+        ((3, 4), (5, 9), "0 4"),
+        ((-3, 100), (8, 8), "-3 7"),
+        ((-100, 3), (-8, -8), "-7 3"),
+        ((-7, 7), (8, 8), "-7 7"),
+        ((-8, 8), (8, 8), "-7 7"),
+        // A dividend on one side of 0, or with an end there.
+        ((-9, -5), (2, 4), "-3 0"),
+        ((-9, 0), (2, 4), "-3 0"),
+        ((5, 9), (-4, -2), "0 3"),
+        ((0, 9), (-4, -2), "0 3"),
+        ((0, 0), (7, 9), "0 0"),
+        // MIN by -1 gives 0, and no overflow.
+        ((MIN, MIN), (-1, -1), "0 0"),
+        (FULL, (-1, -1), "0 0"),
+        (FULL, (-1, 1), "0 0 alarm 2 2"),
+        // The limits: for a divisor with MIN, D is MAX.
+        ((MIN, MIN), (MIN, MIN), "-2147483647 0"),
+        ((MIN, MIN), (MAX, MAX), "-2147483646 0"),
+        ((MAX, MAX), (MIN, MIN), "0 2147483647"),
+        ((MAX, MAX), (MAX, MAX), "0 2147483646"),
+        (FULL, (MIN, MIN), "-2147483647 2147483647"),
+        (FULL, (MIN, MIN + 1), "-2147483647 2147483647"),
+        (FULL, (MIN + 1, MIN + 1), "-2147483646 2147483646"),
+        (FULL, FULL, "-2147483647 2147483647 alarm 2 2"),
+        (FULL, (0, MAX), "-2147483646 2147483646 alarm 2 2"),
+        // A divisor of only 0.
+        ((5, 5), (0, 0), "none alarm 2 2"),
+        ((0, 0), (0, 0), "none alarm 2 2"),
+        (FULL, (0, 0), "none alarm 2 2"),
+    ] {
+        list.value(&remainder(v(), w()), &[a, b], answer);
+        list.value(&remainder(input(a.0, a.1), input(b.0, b.1)), &[(0, 0)], answer);
+    }
+    // Alarms of both operands, and those of operations around it.
+    let odd = || remainder(v(), num(2));
+    let nested = remainder(remainder(num(9), v()), odd());
+    list.value(&nested, &[(0, 9)], "0 0 alarm 2 2 alarm 6 2");
+    list.value(&sum(num(MAX), odd()), &[(0, 9)], "2147483647 2147483647 alarm 4 1");
+    list.value(&quotient(num(1), odd()), &[(0, 9)], "1 1 alarm 4 2");
+}
+
+/// It is no variable, so that its cut isn't carried back.
+fn remainders_in_conditions(list: &mut List) {
+    let of_v = |by| remainder(v(), num(by));
+    list.decision(&less(of_v(12), num(12)), &[(0, 100)], "1 0");
+    list.decision(&equal(of_v(3), num(2)), &[(5, 5)], "1 1");
+    list.decision(&less(remainder(num(7), v()), num(9)), &[(0, 100)], "1 0 alarm 2 2");
+    list.decision(&less(of_v(0), num(1)), &[(0, 100)], "0 0 alarm 2 2");
+    list.both_ways(&less(of_v(12), w()), &[(0, 100), (0, 50)], "0 100 0 11", "0 100 1 50");
+    list.both_ways(&equal(of_v(12), w()), &[(0, 100), (-5, 50)], "0 100 -5 50", "0 100 0 11");
+    list.both_ways(&less(of_v(12), num(0)), &[(0, 100)], "0 100", "none");
+    list.both_ways(&less(of_v(0), w()), &[(0, 100), (0, 50)], "none", "none");
 }
 
 /// Each comparison with 5, on rows below, up to, at, from and above it; and
@@ -258,6 +324,8 @@ fn longest_chains(list: &mut List) {
     list.value(&negations, &[(0, 9)], "-9 0");
     list.value(&negations, &[(MIN, MAX)], "-2147483647 2147483647 alarm 1 1");
     list.value(&negations, &[(1, 0)], "none");
+    let remainders = chain(|tree| remainder(tree, num(7)), v(), 511);
+    list.value(&remainders, &[(-2, 100)], "-2 6");
     let nots = chain(not, below(), 1021);
     list.decision(&nots, &[(0, 4)], "0 1");
     list.both_ways(&nots, &[(0, 9)], "0 4", "5 9");

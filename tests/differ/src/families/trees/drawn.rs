@@ -6,7 +6,8 @@ use crate::build::{Ends, MAX, MIN};
 use peer::generate::Random;
 
 /// All inner kinds, those that rarely fit more often.
-const ANY: [i32; 21] = [3, 4, 5, 6, 7, 8, 16, 17, 18, 19, 20, 21, 22, 7, 8, 8, 8, 20, 20, 21, 21];
+const ANY: [i32; 23] =
+    [3, 4, 5, 6, 7, 8, 9, 16, 17, 18, 19, 20, 21, 22, 7, 8, 8, 8, 9, 20, 20, 21, 21];
 
 /// Conditions on leaves alone.
 const PLAIN: [i32; 9] = [16, 17, 18, 19, 20, 20, 21, 21, 22];
