@@ -31,7 +31,7 @@ pub struct Computed {
     pub zero: bool,
 }
 
-// The least and the greatest result, before the cut to words. Without one: a division by only 0.
+// The least and the greatest exact result before the cut to words; of a remainder, bounds of them. Without a pair: a division by only 0.
 pub enum Uncut {
     NoPair,
     Pair(i64, i64),

@@ -43,7 +43,7 @@ fn fit(n: usize, z: i64, at: usize) -> Evaluation
 fn divide(n: usize, b: i32, z: i64, at: usize) -> Evaluation
     ensures { λ r. ⌜ r ≡ performBy (eqZ b (pos 0)) n z at ⌝ }
 {
-    if b == 0 {
+    if same(b, 0) {
         Evaluation::Error(n, 2, at)
     } else {
         fit(n, z, at)
