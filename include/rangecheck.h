@@ -6,8 +6,11 @@
    A slice is a pointer and a number of words, in two arguments. What is lent to be written may not overlap what is lent to be read. A slice of
    length 0 takes any aligned pointer that is not null.
 
+   A check's time grows with the number of words, but for conditions of one shape that docs/FORMAT.md names ('What formulas give'): each level of it doubles
+   the time. Check such tables as come from elsewhere in a process that can be stopped.
+
    Call from a thread with 2 MB of stack or more. How deep a call goes depends on how deep the table's formulas are nested: 1024 nodes within one another
-   were measured to take 1.1 MB. That is no part of what is proved. */
+   were measured to take 0.6 MB. That is no part of what is proved. */
 #ifndef RANGECHECK_H
 #define RANGECHECK_H
 #include <stddef.h>

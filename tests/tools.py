@@ -584,7 +584,7 @@ def sections(name):
 
 
 def tower():
-    for name in ("tower.txt", "wrong.txt", "ring.txt"):
+    for name in ("tower.txt", "wrong.txt", "ring.txt", "board.txt"):
         t, w, s = sections(name)
         expect("encode %s" % name, tool("encode", example(name)), (packed([len(t), len(w)], t, w), "", 0))
         expect("encode --run %s" % name, tool("encode", "--run", example(name)), (packed([len(t), len(s)], t, s), "", 0))

@@ -1,8 +1,9 @@
 //! Times the proved check and run against the independent implementation, in
-//! one process and on the same inputs, and the whole program against `cat`:
-//! `bench [RANGECHECK]`.
+//! one process and on the same inputs, the whole program against `cat`, and the
+//! check of deep formulas: `bench [RANGECHECK]`.
 
 mod inputs;
+mod nests;
 mod program;
 mod schedule;
 mod timing;
@@ -39,6 +40,12 @@ fn main() {
     for (name, pair) in [("tower", tower), ("largest", inputs::largest_pair())] {
         let times = program::compare(&program, &files.join(format!("{name}.bin")), &pair);
         line(&format!("program on the {name}"), words(&[pair]), &times);
+    }
+    println!();
+
+    head("peer");
+    for check in nests::checks() {
+        line(&check.name, words(&check.pairs), &time_check(&check));
     }
 }
 

@@ -7,10 +7,10 @@ fn words(text: &str) -> Vec<i32> {
         .collect()
 }
 
-/// Each line as its three parts: of the first vectors, and of those given with request 1.
+/// Each line as its three parts: of the first vectors, and of those given with requests 1 and 2. One line of request 1's checks has the answer by request 2.
 fn cases(file: &str) -> Vec<[String; 3]> {
     let folder = concat!(env!("CARGO_MANIFEST_DIR"), "/../../tests/vectors");
-    let text: String = [".", "after-request-1"]
+    let text: String = [".", "after-request-1", "after-request-2"]
         .map(|set| std::fs::read_to_string(format!("{folder}/{set}/{file}")).unwrap())
         .concat();
     let parts = |line: &str| {

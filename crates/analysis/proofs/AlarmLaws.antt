@@ -13,9 +13,8 @@ use lib.ListN.{length, set, getD, replicate, length-set, length-replicate, getD-
 use lib.Seq.{getD-set-same, getD-set-other}
 use Rattle.interval.specs.declared.Computed.{Computed}
 use Rattle.words.proofs.Bools.{clash, and-true, and-left, and-right, or-left, or-right, or-cases}
-use Rattle.analysis.specs.declared.Row.{Row}
 use Rattle.analysis.specs.declared.Alarm.{Alarm}
-use Rattle.analysis.specs.Rows.{Maybe, none, some}
+use Rattle.analysis.specs.Rows.{Row, Maybe, none, some}
 use Rattle.analysis.specs.Alarms.{alarmOf, alarmIf, toldOf, lists, placeOf, markedOf}
 use Rattle.analysis.specs.Analysis.{alarmsOn}
 use Rattle.analysis.specs.Laws.{IsKind, Kinds}

@@ -10,8 +10,7 @@ use Rattle.interval.specs.declared.Interval.the-variants.{None, Between}
 use Rattle.table.specs.declared.Verity.the-variants.{Truth}
 use Rattle.table.specs.Tree.{Arith, constant, input, variable, negation, binary, choice, noArith, Cond, compare, both, either, isNot, noCond}
 use Rattle.table.specs.Meaning.{truthThen, result, truth}
-use Rattle.analysis.specs.declared.Row.{Row}
-use Rattle.analysis.specs.Rows.{Inside}
+use Rattle.analysis.specs.Rows.{Row, Inside}
 use Rattle.analysis.specs.Analysis.{carryOf, carryBothOf, valueOf, alarmsOf, condAlarmsOf, narrowOf}
 use Rattle.analysis.specs.Laws.{Kinds}
 use Rattle.analysis.proofs.RowLaws.{MaybeTighter, tighter-refl, meetAt-tighter, then-tighter, joinRows-tighter}

@@ -27,9 +27,8 @@ use Rattle.table.specs.declared.Evaluation.{Evaluation}
 use Rattle.table.specs.declared.Verity.{Verity}
 use Rattle.table.specs.Tree.{Arith, constant, input, variable, negation, binary, choice, noArith, Cond, compare, both, either, isNot, noCond}
 use Rattle.table.specs.Meaning.{fit, performBy, perform, wordIn, inputBy, branch}
-use Rattle.analysis.specs.declared.Row.{Row}
 use Rattle.analysis.specs.declared.Alarm.{Alarm}
-use Rattle.analysis.specs.Rows.{Maybe, some, Inside, Kept}
+use Rattle.analysis.specs.Rows.{Row, Maybe, Inside, Kept}
 use Rattle.analysis.specs.Alarms.{toldOf}
 use Rattle.analysis.specs.Analysis.{branchOf, rangeOn, alarmsOn, carryOf, carryBothOf, valueOf, alarmsOf, decisionOf, condAlarmsOf, narrowOf}
 use Rattle.analysis.proofs.RowLaws.{kept-some, meetAt-keeps, then-keeps, joinRows-keeps-left, joinRows-keeps-right, branch-keeps}
@@ -120,10 +119,10 @@ module _ (vs : List ℤ) where
   -- ---- a choice: the branch that is taken is one that the decision allows, and the values lie within its row
   module _ (n : ℕ) (c : Cond) (x y : Arith) where
     abbrev rowFor : Bool → Row → Maybe
-    rowFor w r = branchOf (decisionOf c r) w (some r)
+    rowFor w r = branchOf (decisionOf c r) w (narrowOf c w r)
 
     rowFor-keeps : (w : Bool) → Decided c w → (r : Row) → Inside vs r → Kept vs (rowFor w r)
-    rowFor-keeps w h r i = branch-keeps vs (decisionOf c r) w (some r) (h .allowed r i) i
+    rowFor-keeps w h r i = branch-keeps vs (decisionOf c r) w (narrowOf c w r) (h .allowed r i) (h .keeps r i)
 
     abbrev rangeFor : Bool → Arith → Row → Interval
     rangeFor w b r = rangeOn (rowFor w r) (λ s. valueOf b s)

@@ -20,8 +20,7 @@ use Rattle.interval.proofs.IntegerLaws.{≤-trans, min-left, min-right, max-lef
 use Rattle.interval.proofs.IntervalLaws.{first, last, widen, fromTo-holds, fromTo-only}
 use Rattle.interval.proofs.LatticeLaws.{within-holds, fromTo-mono, Ordered, meet-ordered, meet-contains, meet-within-left}
 use Rattle.words.specs.Words.{wordOf}
-use Rattle.analysis.specs.declared.Row.{Row}
-use Rattle.analysis.specs.Rows.{rowOf, rangeOf, Maybe, none, some, rowIf, thenRow, putOf, meetAtOf, eachRest, each, joinRowsOf, Inside, Kept, MaybeWithin}
+use Rattle.analysis.specs.Rows.{Row, rowOf, rangeOf, Maybe, none, some, rowIf, thenRow, putOf, meetAtOf, eachRest, each, joinRowsOf, Inside, Kept, MaybeWithin}
 use Rattle.analysis.specs.Analysis.{branchOf}
 
 -- ---- a word put in place, and words joined place by place

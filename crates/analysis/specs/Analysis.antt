@@ -14,13 +14,12 @@ use Rattle.interval.specs.declared.Interval.the-variants.{None, Between}
 use Rattle.interval.specs.declared.Decision.{Decision}
 use Rattle.interval.specs.declared.Cuts.{Cuts}
 use Rattle.table.specs.Tree.{Arith, constant, input, variable, negation, binary, choice, noArith, Cond, compare, both, either, isNot, noCond}
-use Rattle.analysis.specs.declared.Row.{Row}
 use Rattle.analysis.specs.declared.Alarm.{Alarm}
-use Rattle.analysis.specs.Rows.{rangeOf, Maybe, none, some, rowIf, thenRow, meetAtOf, joinRowsOf}
+use Rattle.analysis.specs.Rows.{Row, rangeOf, Maybe, none, some, rowIf, thenRow, meetAtOf, joinRowsOf}
 use Rattle.analysis.specs.Alarms.{toldOf}
 
 -- ---- the branches of a choice
--- the row on which the branch that is taken where the condition is w is read: none if the decision doesn't allow w
+-- the row on which the branch that is taken where the condition is w is read, s being the row narrowed by w: none if the decision doesn't allow w
 abbrev pub branchOf : Decision → Bool → Maybe → Maybe
 branchOf d w s = rowIf (allows d w) s
 
@@ -59,11 +58,11 @@ unfoldable mutual
   valueOf (variable n v) r = rangeOf r v
   valueOf (negation n x) r = negateOf (valueOf x r) .range
   valueOf (binary n op x y) r = operateOf op (valueOf x r) (valueOf y r) .range
-  -- 'join of the branches its condition allows, each on the same row'
+  -- 'join of the branches its condition allows', the then branch on the row narrowed by the condition, the else branch on that narrowed by its opposite
   valueOf (choice n c x y) r =
       joinOf
-      (rangeOn (branchOf (decisionOf c r) true (some r)) (λ s. valueOf x s))
-      (rangeOn (branchOf (decisionOf c r) false (some r)) (λ s. valueOf y s))
+      (rangeOn (branchOf (decisionOf c r) true (narrowOf c true r)) (λ s. valueOf x s))
+      (rangeOn (branchOf (decisionOf c r) false (narrowOf c false r)) (λ s. valueOf y s))
   valueOf (noArith n) r = Between (pos 0) (pos 0)
 
   -- 'alarms of both operands always count'; of a choice 'alarms of the condition and of every branch it allows, no others'
@@ -75,8 +74,8 @@ unfoldable mutual
   alarmsOf (binary n op x y) r = alarmsOf x r ++ (alarmsOf y r ++ toldOf n (operateOf op (valueOf x r) (valueOf y r)))
   alarmsOf (choice n c x y) r =
       condAlarmsOf c r
-      ++ (alarmsOn (branchOf (decisionOf c r) true (some r)) (λ s. alarmsOf x s)
-      ++ alarmsOn (branchOf (decisionOf c r) false (some r)) (λ s. alarmsOf y s))
+      ++ (alarmsOn (branchOf (decisionOf c r) true (narrowOf c true r)) (λ s. alarmsOf x s)
+      ++ alarmsOn (branchOf (decisionOf c r) false (narrowOf c false r)) (λ s. alarmsOf y s))
   alarmsOf (noArith n) r = []
 
   -- 'which of true and false are possible'

@@ -15,9 +15,8 @@ use Rattle.table.specs.declared.Evaluation.the-variants.{Value, Error}
 use Rattle.table.specs.declared.Verity.the-variants.{Truth, Failure}
 use Rattle.table.specs.Tree.{Arith, Cond}
 use Rattle.table.specs.Meaning.{result, truth}
-use Rattle.analysis.specs.declared.Row.{Row}
 use Rattle.analysis.specs.declared.Alarm.{Alarm}
-use Rattle.analysis.specs.Rows.{Inside, Kept, MaybeWithin}
+use Rattle.analysis.specs.Rows.{Row, Inside, Kept, MaybeWithin}
 use Rattle.analysis.specs.Alarms.{lists, placeOf, markedOf}
 use Rattle.analysis.specs.Analysis.{valueOf, alarmsOf, decisionOf, condAlarmsOf, narrowOf}
 

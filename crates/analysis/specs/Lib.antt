@@ -1,5 +1,6 @@
 pub mod Rows
 pub mod Alarms
 pub mod Analysis
+pub mod Arrays
 pub mod Laws
 pub mod Examples

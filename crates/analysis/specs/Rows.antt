@@ -5,7 +5,7 @@ use mathlib.Core.Bool.{Bool, true, false}
 use mathlib.Core.List.{List, [], _∷_}
 use Prim.Native.Nat.{ℕ}
 use lib.IntN.{ℤ, pos}
-use lib.ListN.{set, drop, replicate}
+use lib.ListN.{set, drop}
 use Rattle.interval.specs.Integer.{minZ, maxZ}
 use Rattle.interval.specs.Interval.{fromTo, Within}
 use Rattle.interval.specs.Lattice.{_⊑_, meetOf}
@@ -13,10 +13,13 @@ use Rattle.interval.specs.declared.Interval.{Interval}
 use Rattle.interval.specs.declared.Interval.the-variants.{None, Between}
 use Rattle.words.specs.Words.{wordOf}
 use Rattle.words.specs.Tabulate.{tabulate}
-use Rattle.analysis.specs.declared.Row.{Row}
-use Rattle.analysis.specs.declared.Narrowed.{Narrowed}
 
 -- ---- rows
+-- an interval for each variable: all low ends, and all high ends
+pub record Row : Type 0 where
+  pub lows : List ℤ
+  pub highs : List ℤ
+
 -- the row of two lists of ends
 abbrev pub rowOf : List ℤ → List ℤ → Row
 rowOf lows highs = record { lows = lows; highs = highs }
@@ -37,18 +40,10 @@ pub data Maybe : Type 0 where
   none : Maybe
   some : Row → Maybe
 
--- as the code gives it back
-unfoldable pub answerOf : Maybe → Narrowed
-answerOf none = record { some = false; row = rowOf (replicate 16 (pos 0)) (replicate 16 (pos 0)) }
-answerOf (some r) = record { some = true; row = r }
-
--- and as it is read again
+-- as the code gives it back: whether there is one, and the row
 unfoldable pub maybeBy : Bool → Row → Maybe
 maybeBy true r = some r
 maybeBy false r = none
-
-abbrev pub asMaybe : Narrowed → Maybe
-asMaybe n = maybeBy (n .some) (n .row)
 
 unfoldable pub rowIf : Bool → Maybe → Maybe
 rowIf true s = s

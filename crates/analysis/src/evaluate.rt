@@ -1,7 +1,16 @@
-// The interval of arithmetic and the decision of a condition on a row, with their alarms marked in the same walk. The two call each other, the node
-// number falling.
+// The interval of arithmetic on a row, and what a condition says of a row, with their alarms marked in the same walk. They call each other, the node
+// number falling. A comparison's sides are evaluated once, on the row that is read, for its decision and for both rows that it cuts; they are evaluated
+// again, without alarms, only for a row that isn't a copy of that.
+use crate::Copies;
+use crate::Row;
+use crate::Split;
 use crate::alarms::mark_told;
-use crate::rows::range;
+use crate::narrow::carry_both;
+use crate::rows::clear_unless;
+use crate::rows::is_copy;
+use crate::rows::join_rows;
+use crate::rows::range_in;
+use interval::Comparison;
 use interval::Decision;
 use interval::Interval;
 use interval::arithmetic::negate;
@@ -12,45 +21,38 @@ use interval::compare::either;
 use interval::compare::opposite;
 use interval::integer::max32;
 use interval::lattice::join;
+use interval::narrow::cuts;
 use table::Shape;
 use table::decode::shape_at;
 ghost use mathlib.Core.Path.{_≡_};
-ghost use Rattle.table.specs.Tree.{arithAt, condAt};
-ghost use Rattle.analysis.specs.Rows.{rowOf, rowIf, some};
+ghost use mathlib.Core.Bool.{true, false};
+ghost use Rattle.interval.specs.Compare.{decision, oppositeOf, compareOf};
+ghost use Rattle.table.specs.Tree.{choice, compare, both, either, arithAt, condAt};
+ghost use Rattle.analysis.specs.Rows.{maybeBy};
 ghost use Rattle.analysis.specs.Alarms.{markedOf};
-ghost use Rattle.analysis.specs.Analysis.{valueOf, alarmsOf, decisionOf, condAlarmsOf, rangeOn, alarmsOn};
+ghost use Rattle.analysis.specs.Analysis.{valueOf, alarmsOf, decisionOf, condAlarmsOf, narrowOf, rangeOn, alarmsOn};
+ghost use Rattle.analysis.specs.Arrays.{rowIn, leftOf, splitOf, CopyIf, KnownIf};
 
 // The interval of the arithmetic node n.
-pub fn value<'a, 'b>(
-    nodes: &'a [i32],
-    n: usize,
-    lows: &'a [i32],
-    highs: &'a [i32],
-    marks: &'b mut [u8],
-) -> Interval
-    ensures { λ r. ⌜ r ≡ valueOf (arithAt (now (nodes .entry)) n) (rowOf (now (lows .entry)) (now (highs .entry))) ⌝ }
-    ensures { λ r. ⌜ now (marks .exit) ≡ markedOf (now (marks .entry)) (alarmsOf (arithAt (now (nodes .entry)) n) (rowOf (now (lows .entry)) (now (highs .entry)))) ⌝ }
+pub fn value<'a, 'b, 'c>(nodes: &'a [i32], n: usize, row: &'b Row, marks: &'c mut [u8]) -> Interval
+    ensures { λ r. ⌜ r ≡ valueOf (arithAt (now (nodes .entry)) n) (rowIn (now (row .entry))) ⌝ }
+    ensures { λ r. ⌜ now (marks .exit) ≡ markedOf (now (marks .entry)) (alarmsOf (arithAt (now (nodes .entry)) n) (rowIn (now (row .entry)))) ⌝ }
 {
     let s = shape_at(nodes, n);
     match s {
         Shape::Constant(z) => Interval::Between(z, z),
         Shape::Input(a, b) => Interval::Between(a, max32(a, b)),
-        Shape::Variable(v) => range(lows, highs, v),
+        Shape::Variable(v) => range_in(row, v),
         Shape::Negation(a) => {
-            let x = value(nodes, a, lows, highs, marks);
+            let x = value(nodes, a, row, marks);
             mark_told(marks, n, negate(x))
         }
         Shape::Binary(op, a, b) => {
-            let x = value(nodes, a, lows, highs, marks);
-            let y = value(nodes, b, lows, highs, marks);
+            let x = value(nodes, a, row, marks);
+            let y = value(nodes, b, row, marks);
             mark_told(marks, n, operate(op, x, y))
         }
-        Shape::Choice(c, a, b) => {
-            let d = decision(nodes, c, lows, highs, marks);
-            let x = branch(d.yes, nodes, a, lows, highs, marks);
-            let y = branch(d.no, nodes, b, lows, highs, marks);
-            join(x, y)
-        }
+        Shape::Choice(c, a, b) => choose(nodes, c, a, b, row, marks),
         Shape::Compare(_, _, _) => Interval::Between(0, 0),
         Shape::Both(_, _) => Interval::Between(0, 0),
         Shape::Either(_, _) => Interval::Between(0, 0),
@@ -59,57 +61,261 @@ pub fn value<'a, 'b>(
     }
 }
 
-// A branch of a choice: the interval of the arithmetic node n where the condition allows it, else none.
-fn branch<'a, 'b>(
-    allowed: bool,
+// A choice by the condition node c. Its branches' rows are made here, and the condition narrows them in their places.
+fn choose<'a, 'b, 'c>(
+    nodes: &'a [i32],
+    c: usize,
+    a: usize,
+    b: usize,
+    row: &'b Row,
+    marks: &'c mut [u8],
+) -> Interval
+    ensures { λ r. ⌜ r ≡ valueOf (choice 0 (condAt (now (nodes .entry)) c) (arithAt (now (nodes .entry)) a) (arithAt (now (nodes .entry)) b)) (rowIn (now (row .entry))) ⌝ }
+    ensures { λ r. ⌜ now (marks .exit) ≡ markedOf (now (marks .entry)) (alarmsOf (choice 0 (condAt (now (nodes .entry)) c) (arithAt (now (nodes .entry)) a) (arithAt (now (nodes .entry)) b)) (rowIn (now (row .entry)))) ⌝ }
+{
+    let mut yes = *row;
+    let mut no = *row;
+    let copies = Copies {
+        yes: true,
+        no: true,
+    };
+    let s = split(nodes, c, row, marks, copies, &mut yes, &mut no);
+    let d = s.decision;
+    let x = branch(d.yes & s.yes, nodes, a, &yes, marks);
+    let y = branch(d.no & s.no, nodes, b, &no, marks);
+    join(x, y)
+}
+
+// A branch of a choice: the interval of the arithmetic node n where the branch is taken, else none.
+fn branch<'a, 'b, 'c>(
+    taken: bool,
     nodes: &'a [i32],
     n: usize,
-    lows: &'a [i32],
-    highs: &'a [i32],
-    marks: &'b mut [u8],
+    row: &'b Row,
+    marks: &'c mut [u8],
 ) -> Interval
-    ensures { λ r. ⌜ r ≡ rangeOn (rowIf allowed (some (rowOf (now (lows .entry)) (now (highs .entry))))) (valueOf (arithAt (now (nodes .entry)) n)) ⌝ }
-    ensures { λ r. ⌜ now (marks .exit) ≡ markedOf (now (marks .entry)) (alarmsOn (rowIf allowed (some (rowOf (now (lows .entry)) (now (highs .entry))))) (alarmsOf (arithAt (now (nodes .entry)) n))) ⌝ }
+    ensures { λ r. ⌜ r ≡ rangeOn (maybeBy taken (rowIn (now (row .entry)))) (valueOf (arithAt (now (nodes .entry)) n)) ⌝ }
+    ensures { λ r. ⌜ now (marks .exit) ≡ markedOf (now (marks .entry)) (alarmsOn (maybeBy taken (rowIn (now (row .entry)))) (alarmsOf (arithAt (now (nodes .entry)) n))) ⌝ }
 {
-    if allowed {
-        value(nodes, n, lows, highs, marks)
+    if taken {
+        value(nodes, n, row, marks)
     } else {
         Interval::None
     }
 }
 
-// Which of true and false the condition node n can be.
-pub fn decision<'a, 'b>(
+// What the condition node n says of the row: its decision, with its alarms. In their places the row yes is narrowed by the condition, and the row no by
+// its opposite.
+fn split<'a, 'b, 'c, 'd, 'e>(
     nodes: &'a [i32],
     n: usize,
-    lows: &'a [i32],
-    highs: &'a [i32],
-    marks: &'b mut [u8],
-) -> Decision
-    ensures { λ r. ⌜ r ≡ decisionOf (condAt (now (nodes .entry)) n) (rowOf (now (lows .entry)) (now (highs .entry))) ⌝ }
-    ensures { λ r. ⌜ now (marks .exit) ≡ markedOf (now (marks .entry)) (condAlarmsOf (condAt (now (nodes .entry)) n) (rowOf (now (lows .entry)) (now (highs .entry)))) ⌝ }
+    row: &'b Row,
+    marks: &'c mut [u8],
+    copies: Copies,
+    yes: &'d mut Row,
+    no: &'e mut Row,
+) -> Split
+    requires { ⌜ CopyIf (copies .yes) (now yes) (now row) × CopyIf (copies .no) (now no) (now row) ⌝ }
+    ensures { λ r. ⌜ r .decision ≡ decisionOf (condAt (now (nodes .entry)) n) (rowIn (now (row .entry))) ⌝ }
+    ensures { λ r. ⌜ maybeBy (r .yes) (rowIn (now (yes .exit))) ≡ narrowOf (condAt (now (nodes .entry)) n) true (rowIn (now (yes .entry))) ⌝ }
+    ensures { λ r. ⌜ maybeBy (r .no) (rowIn (now (no .exit))) ≡ narrowOf (condAt (now (nodes .entry)) n) false (rowIn (now (no .entry))) ⌝ }
+    ensures { λ r. ⌜ now (marks .exit) ≡ markedOf (now (marks .entry)) (condAlarmsOf (condAt (now (nodes .entry)) n) (rowIn (now (row .entry)))) ⌝ }
 {
-    let s = shape_at(nodes, n);
-    match s {
+    let shape = shape_at(nodes, n);
+    match shape {
         Shape::Compare(k, a, b) => {
-            let x = value(nodes, a, lows, highs, marks);
-            let y = value(nodes, b, lows, highs, marks);
-            compare(k, x, y)
+            let x = value(nodes, a, row, marks);
+            let y = value(nodes, b, row, marks);
+            split_by(nodes, k, a, b, x, y, copies, yes, no)
         }
-        Shape::Both(a, b) => {
-            let d = decision(nodes, a, lows, highs, marks);
-            let e = decision(nodes, b, lows, highs, marks);
-            both(d, e)
+        Shape::Both(a, b) => split_both(nodes, a, b, row, marks, copies, yes, no),
+        Shape::Either(a, b) => split_either(nodes, a, b, row, marks, copies, yes, no),
+        Shape::Not(a) => {
+            let turned = Copies {
+                yes: copies.no,
+                no: copies.yes,
+            };
+            opposed(split(nodes, a, row, marks, turned, no, yes))
         }
-        Shape::Either(a, b) => {
-            let d = decision(nodes, a, lows, highs, marks);
-            let e = decision(nodes, b, lows, highs, marks);
-            either(d, e)
-        }
-        Shape::Not(a) => opposite(decision(nodes, a, lows, highs, marks)),
-        _ => Decision {
-            yes: false,
-            no: true,
-        },
+        _ => no_condition(),
     }
+}
+
+// Both of two conditions. The right side is decided on the row that is read, and narrows what the left side left of the row yes.
+fn split_both<'a, 'b, 'c, 'd, 'e>(
+    nodes: &'a [i32],
+    a: usize,
+    b: usize,
+    row: &'b Row,
+    marks: &'c mut [u8],
+    copies: Copies,
+    yes: &'d mut Row,
+    no: &'e mut Row,
+) -> Split
+    requires { ⌜ CopyIf (copies .yes) (now yes) (now row) × CopyIf (copies .no) (now no) (now row) ⌝ }
+    ensures { λ r. ⌜ r .decision ≡ decisionOf (both 0 (condAt (now (nodes .entry)) a) (condAt (now (nodes .entry)) b)) (rowIn (now (row .entry))) ⌝ }
+    ensures { λ r. ⌜ maybeBy (r .yes) (rowIn (now (yes .exit))) ≡ narrowOf (both 0 (condAt (now (nodes .entry)) a) (condAt (now (nodes .entry)) b)) true (rowIn (now (yes .entry))) ⌝ }
+    ensures { λ r. ⌜ maybeBy (r .no) (rowIn (now (no .exit))) ≡ narrowOf (both 0 (condAt (now (nodes .entry)) a) (condAt (now (nodes .entry)) b)) false (rowIn (now (no .entry))) ⌝ }
+    ensures { λ r. ⌜ now (marks .exit) ≡ markedOf (now (marks .entry)) (condAlarmsOf (both 0 (condAt (now (nodes .entry)) a) (condAt (now (nodes .entry)) b)) (rowIn (now (row .entry)))) ⌝ }
+{
+    let mut more = *no;
+    let s = split(nodes, a, row, marks, copies, yes, no);
+    let next = Copies {
+        yes: is_copy(s.yes, yes, row),
+        no: copies.no,
+    };
+    let t = split(nodes, b, row, marks, next, yes, &mut more);
+    let joined = join_rows(s.no, no, t.no, &more);
+    let d = s.decision;
+    let e = t.decision;
+    let f = both(d, e);
+    Split {
+        decision: f,
+        yes: s.yes & t.yes,
+        no: joined,
+    }
+}
+
+// Either of two conditions, the other way round.
+fn split_either<'a, 'b, 'c, 'd, 'e>(
+    nodes: &'a [i32],
+    a: usize,
+    b: usize,
+    row: &'b Row,
+    marks: &'c mut [u8],
+    copies: Copies,
+    yes: &'d mut Row,
+    no: &'e mut Row,
+) -> Split
+    requires { ⌜ CopyIf (copies .yes) (now yes) (now row) × CopyIf (copies .no) (now no) (now row) ⌝ }
+    ensures { λ r. ⌜ r .decision ≡ decisionOf (either 0 (condAt (now (nodes .entry)) a) (condAt (now (nodes .entry)) b)) (rowIn (now (row .entry))) ⌝ }
+    ensures { λ r. ⌜ maybeBy (r .yes) (rowIn (now (yes .exit))) ≡ narrowOf (either 0 (condAt (now (nodes .entry)) a) (condAt (now (nodes .entry)) b)) true (rowIn (now (yes .entry))) ⌝ }
+    ensures { λ r. ⌜ maybeBy (r .no) (rowIn (now (no .exit))) ≡ narrowOf (either 0 (condAt (now (nodes .entry)) a) (condAt (now (nodes .entry)) b)) false (rowIn (now (no .entry))) ⌝ }
+    ensures { λ r. ⌜ now (marks .exit) ≡ markedOf (now (marks .entry)) (condAlarmsOf (either 0 (condAt (now (nodes .entry)) a) (condAt (now (nodes .entry)) b)) (rowIn (now (row .entry)))) ⌝ }
+{
+    let mut more = *yes;
+    let s = split(nodes, a, row, marks, copies, yes, no);
+    let next = Copies {
+        yes: copies.yes,
+        no: is_copy(s.no, no, row),
+    };
+    let t = split(nodes, b, row, marks, next, &mut more, no);
+    let joined = join_rows(s.yes, yes, t.yes, &more);
+    let d = s.decision;
+    let e = t.decision;
+    let f = either(d, e);
+    Split {
+        decision: f,
+        yes: joined,
+        no: s.no & t.no,
+    }
+}
+
+// A comparison of the arithmetic nodes a and b, whose intervals on the row that is read are x and y.
+fn split_by<'a, 'd, 'e>(
+    nodes: &'a [i32],
+    k: Comparison,
+    a: usize,
+    b: usize,
+    x: Interval,
+    y: Interval,
+    copies: Copies,
+    yes: &'d mut Row,
+    no: &'e mut Row,
+) -> Split
+    requires { ⌜ KnownIf (copies .yes) (now nodes) a b x y (now yes) × KnownIf (copies .no) (now nodes) a b x y (now no) ⌝ }
+    ensures { λ r. ⌜ r .decision ≡ compareOf k x y ⌝ }
+    ensures { λ r. ⌜ maybeBy (r .yes) (rowIn (now (yes .exit))) ≡ narrowOf (compare 0 k (arithAt (now (nodes .entry)) a) (arithAt (now (nodes .entry)) b)) true (rowIn (now (yes .entry))) ⌝ }
+    ensures { λ r. ⌜ maybeBy (r .no) (rowIn (now (no .exit))) ≡ narrowOf (compare 0 k (arithAt (now (nodes .entry)) a) (arithAt (now (nodes .entry)) b)) false (rowIn (now (no .entry))) ⌝ }
+{
+    let d = compare(k, x, y);
+    let left = cut(nodes, k, true, a, b, x, y, copies.yes, yes);
+    let other = cut(nodes, k, false, a, b, x, y, copies.no, no);
+    Split {
+        decision: d,
+        yes: left,
+        no: other,
+    }
+}
+
+// The row that is left where the comparison has the truth wanted. If x and y are known to be the sides' intervals on this row, they serve; else both
+// sides are evaluated on it, and no alarm is marked.
+fn cut<'a, 'b>(
+    nodes: &'a [i32],
+    k: Comparison,
+    wanted: bool,
+    a: usize,
+    b: usize,
+    x: Interval,
+    y: Interval,
+    known: bool,
+    row: &'b mut Row,
+) -> bool
+    requires { ⌜ KnownIf known (now nodes) a b x y (now row) ⌝ }
+    ensures { λ r. ⌜ maybeBy r (rowIn (now (row .exit))) ≡ narrowOf (compare 0 k (arithAt (now (nodes .entry)) a) (arithAt (now (nodes .entry)) b)) wanted (rowIn (now (row .entry))) ⌝ }
+{
+    if known {
+        return carry_both(nodes, a, b, cuts(k, wanted, x, y), row);
+    }
+    let mut unmarked = [0u8; 1];
+    let u = value(nodes, a, &*row, &mut unmarked);
+    let v = value(nodes, b, &*row, &mut unmarked);
+    carry_both(nodes, a, b, cuts(k, wanted, u, v), row)
+}
+
+// The opposite.
+fn opposed(s: Split) -> Split
+    ensures { λ r. ⌜ r .decision ≡ oppositeOf (s .decision) ⌝ }
+    ensures { λ r. ⌜ (r .yes ≡ s .no) × (r .no ≡ s .yes) ⌝ }
+{
+    let d = s.decision;
+    let e = opposite(d);
+    Split {
+        decision: e,
+        yes: s.no,
+        no: s.yes,
+    }
+}
+
+// A node that is no condition is false.
+fn no_condition() -> Split
+    ensures { λ r. ⌜ r .decision ≡ decision false true ⌝ }
+    ensures { λ r. ⌜ (r .yes ≡ false) × (r .no ≡ true) ⌝ }
+{
+    let d = Decision {
+        yes: false,
+        no: true,
+    };
+    Split {
+        decision: d,
+        yes: false,
+        no: true,
+    }
+}
+
+// What the condition node n says of the row: its decision, with its alarms, and in their places the row where it is true and the row where it is not,
+// zeros where there is none.
+pub fn sides<'a, 'b, 'c, 'd, 'e>(
+    nodes: &'a [i32],
+    n: usize,
+    row: &'b Row,
+    marks: &'c mut [u8],
+    yes: &'d mut Row,
+    no: &'e mut Row,
+) -> Split
+    ensures { λ r. ⌜ r ≡ splitOf (condAt (now (nodes .entry)) n) (rowIn (now (row .entry))) ⌝ }
+    ensures { λ r. ⌜ rowIn (now (yes .exit)) ≡ leftOf (narrowOf (condAt (now (nodes .entry)) n) true (rowIn (now (row .entry)))) ⌝ }
+    ensures { λ r. ⌜ rowIn (now (no .exit)) ≡ leftOf (narrowOf (condAt (now (nodes .entry)) n) false (rowIn (now (row .entry)))) ⌝ }
+    ensures { λ r. ⌜ now (marks .exit) ≡ markedOf (now (marks .entry)) (condAlarmsOf (condAt (now (nodes .entry)) n) (rowIn (now (row .entry)))) ⌝ }
+{
+    *yes = *row;
+    *no = *row;
+    let copies = Copies {
+        yes: true,
+        no: true,
+    };
+    let s = split(nodes, n, row, marks, copies, yes, no);
+    clear_unless(s.yes, yes);
+    clear_unless(s.no, no);
+    s
 }

@@ -1,5 +1,6 @@
 // The analysis of a tree on a row: the interval of arithmetic, the decision of a condition, their alarms, and the row that a condition of a known
-// truth leaves. A row that is read is two lent slices; only narrowing makes a row of its own.
+// truth leaves. A choice reads each branch on the row that its condition leaves for it.
+use interval::Decision;
 ghost use Rattle.analysis.specs.Laws.{Laws};
 ghost use Rattle.analysis.specs.Examples.{Starred};
 
@@ -8,16 +9,20 @@ pub mod evaluate;
 pub mod narrow;
 pub mod rows;
 
-// A row of its own: all low ends, and all high ends, in the sixteen slots that a table can have.
-pub struct Row {
-    pub lows: [i32; 16],
-    pub highs: [i32; 16],
+// A row in the sixteen slots that a table can have: all low ends, then all high ends.
+pub type Row = [i32; 32];
+
+// What a condition says of a row: its decision, and whether there is a row where it is true and one where it is false.
+pub struct Split {
+    pub decision: Decision,
+    pub yes: bool,
+    pub no: bool,
 }
 
-// What narrowing leaves: a row, or none, in which case the row's words are 0.
-pub struct Narrowed {
-    pub some: bool,
-    pub row: Row,
+// Whether the row that is lent for 'true', and that for 'false', is a copy of the row that is read.
+pub(crate) struct Copies {
+    pub(crate) yes: bool,
+    pub(crate) no: bool,
 }
 
 // A node, and the kind of error that is possible there: 1 overflow, 2 division by zero.

@@ -1,15 +1,22 @@
-// Rows: reading one through two lent slices, and the rows that narrowing makes.
-use crate::Narrowed;
+// Rows: reading one through two lent slices, and changing one that is an array in its place. Where a function answers false there is no row, and the
+// words of the lent one are left open.
 use crate::Row;
 use interval::Interval;
 use interval::integer::max32;
 use interval::integer::min32;
+use interval::integer::same;
 use interval::lattice::between;
 use interval::lattice::meet;
+use words::part;
 use words::word;
 ghost use mathlib.Core.Path.{_≡_};
-ghost use Rattle.interval.specs.Integer.{minZ, maxZ};
-ghost use Rattle.analysis.specs.Rows.{rowOf, rangeOf, slotsOf, ownOf, answerOf, putOf, meetAtOf, each, joinRowsOf, asMaybe, none, some};
+ghost use mathlib.Core.Bool.{true};
+ghost use lib.ListN.{length};
+ghost use Rattle.interval.specs.Integer.{eqZ};
+ghost use Rattle.words.specs.Words.{wordOf};
+ghost use Rattle.words.specs.First.{allBelow};
+ghost use Rattle.analysis.specs.Rows.{rowOf, rangeOf, ownOf, putOf, meetAtOf, joinRowsOf, some, maybeBy};
+ghost use Rattle.analysis.specs.Arrays.{rowIn, endOf, outerOf, leftOf};
 
 // The interval of the variable v.
 pub fn range<'a>(lows: &'a [i32], highs: &'a [i32], v: usize) -> Interval
@@ -18,127 +25,141 @@ pub fn range<'a>(lows: &'a [i32], highs: &'a [i32], v: usize) -> Interval
     between(word(lows, v), word(highs, v))
 }
 
-// The words in sixteen slots.
-fn slots(ws: &[i32]) -> [i32; 16]
-    ensures { λ r. ⌜ r ≡ slotsOf (now (ws .entry)) ⌝ }
+// The low ends of a row in an array.
+pub fn low_ends(row: &[i32]) -> &[i32]
+    ensures { λ r. ⌜ now r ≡ rowIn (now (row .entry)) .lows ⌝ }
 {
-    let mut own = [0i32; 16];
-    let mut i = 0;
-    while i < 16 {
-        own[i] = word(ws, i);
-        i += 1;
+    part(row, 0, 16)
+}
+
+// The high ends.
+pub fn high_ends(row: &[i32]) -> &[i32]
+    ensures { λ r. ⌜ now r ≡ rowIn (now (row .entry)) .highs ⌝ }
+{
+    part(row, 16, 16)
+}
+
+// The interval of the variable v of a row in an array.
+pub(crate) fn range_in(row: &[i32], v: usize) -> Interval
+    ensures { λ r. ⌜ r ≡ rangeOf (rowIn (now (row .entry))) v ⌝ }
+{
+    range(low_ends(row), high_ends(row), v)
+}
+
+// The word i of a row in an array: the low ends, then the high ends.
+fn end<'a>(lows: &'a [i32], highs: &'a [i32], i: usize) -> i32
+    ensures { λ r. ⌜ r ≡ endOf (rowOf (now (lows .entry)) (now (highs .entry))) i ⌝ }
+{
+    if i < 16 {
+        word(lows, i)
+    } else {
+        word(highs, i - 16)
     }
-    own
 }
 
 // The row of two lent slices, as a row of its own.
 pub fn own<'a>(lows: &'a [i32], highs: &'a [i32]) -> Row
-    ensures { λ r. ⌜ r ≡ ownOf (rowOf (now (lows .entry)) (now (highs .entry))) ⌝ }
+    ensures { λ r. ⌜ rowIn r ≡ ownOf (rowOf (now (lows .entry)) (now (highs .entry))) ⌝ }
 {
-    Row {
-        lows: slots(lows),
-        highs: slots(highs),
+    let mut row = [0i32; 32];
+    let mut i = 0;
+    while i < 32 {
+        row[i] = end(lows, highs, i);
+        i += 1;
     }
-}
-
-pub(crate) fn no_row() -> Narrowed
-    ensures { λ r. ⌜ r ≡ answerOf none ⌝ }
-{
-    Narrowed {
-        some: false,
-        row: Row {
-            lows: [0; 16],
-            highs: [0; 16],
-        },
-    }
-}
-
-pub(crate) fn one_row(row: Row) -> Narrowed
-    ensures { λ r. ⌜ r ≡ answerOf (some row) ⌝ }
-{
-    Narrowed {
-        some: true,
-        row: row,
-    }
+    row
 }
 
 // The row with the interval s of v; none where s is none.
-fn put(row: Row, v: usize, s: Interval) -> Narrowed
-    ensures { λ r. ⌜ r ≡ answerOf (putOf row v s) ⌝ }
+fn put(row: &mut [i32], v: usize, s: Interval) -> bool
+    requires { ⌜ length (now row) ≡ 32 ⌝ }
+    ensures { λ r. ⌜ maybeBy r (rowIn (now (row .exit))) ≡ putOf (rowIn (now (row .entry))) v s ⌝ }
 {
     let Interval::Between(a, b) = s else {
-        return no_row();
+        return false;
     };
-    let mut lows = row.lows;
-    let mut highs = row.highs;
     if v < 16 {
-        lows[v] = a;
-        highs[v] = b;
+        row[v] = a;
+        row[v + 16] = b;
     }
-    one_row(Row {
-        lows: lows,
-        highs: highs,
-    })
+    true
 }
 
 // The row, where v is known to lie in s.
-pub(crate) fn meet_at(row: Row, v: usize, s: Interval) -> Narrowed
-    ensures { λ r. ⌜ r ≡ answerOf (meetAtOf row v s) ⌝ }
+pub(crate) fn meet_at(row: &mut Row, v: usize, s: Interval) -> bool
+    ensures { λ r. ⌜ maybeBy r (rowIn (now (row .exit))) ≡ meetAtOf (rowIn (now (row .entry))) v s ⌝ }
 {
-    put(row, v, meet(range(&row.lows, &row.highs, v), s))
+    let x = range_in(&*row, v);
+    put(row, v, meet(x, s))
 }
 
-fn least(a: [i32; 16], b: [i32; 16]) -> [i32; 16]
-    ensures { λ r. ⌜ r ≡ each minZ a b ⌝ }
+// The word i of two rows together: the lesser low end, the greater high end.
+fn outer(i: usize, x: i32, y: i32) -> i32
+    ensures { λ r. ⌜ r ≡ outerOf i x y ⌝ }
 {
-    let mut both = a;
+    if i < 16 { min32(x, y) } else { max32(x, y) }
+}
+
+// Two rows together, in the place of the first.
+fn widen<'a, 'b>(row: &'a mut [i32], more: &'b [i32])
+    requires { ⌜ (length (now row) ≡ 32) × (length (now more) ≡ 32) ⌝ }
+    ensures { λ r. ⌜ some (rowIn (now (row .exit))) ≡ joinRowsOf (some (rowIn (now (row .entry)))) (some (rowIn (now (more .entry)))) ⌝ }
+{
     let mut i = 0;
-    while i < 16 {
-        both[i] = min32(a[i], b[i]);
+    while i < 32 {
+        row[i] = outer(i, row[i], more[i]);
         i += 1;
     }
-    both
 }
 
-fn greatest(a: [i32; 16], b: [i32; 16]) -> [i32; 16]
-    ensures { λ r. ⌜ r ≡ each maxZ a b ⌝ }
+// The row, if x, and the other, if y, together, in the row's place. None adds nothing.
+pub(crate) fn join_rows<'a, 'b>(x: bool, row: &'a mut Row, y: bool, more: &'b Row) -> bool
+    ensures { λ r. ⌜ maybeBy r (rowIn (now (row .exit))) ≡ joinRowsOf (maybeBy x (rowIn (now (row .entry)))) (maybeBy y (rowIn (now (more .entry)))) ⌝ }
 {
-    let mut both = a;
-    let mut i = 0;
-    while i < 16 {
-        both[i] = max32(a[i], b[i]);
-        i += 1;
-    }
-    both
-}
-
-// The row that narrowing left, or none.
-fn again(x: Narrowed) -> Narrowed
-    ensures { λ r. ⌜ r ≡ answerOf (asMaybe x) ⌝ }
-{
-    if x.some { x } else { no_row() }
-}
-
-// Both rows together. None adds nothing.
-pub(crate) fn join_rows(x: Narrowed, y: Narrowed) -> Narrowed
-    ensures { λ r. ⌜ r ≡ answerOf (joinRowsOf (asMaybe x) (asMaybe y)) ⌝ }
-{
-    if !x.some {
-        return again(y);
-    }
-    if !y.some {
+    if !y {
         return x;
     }
-    let a = x.row;
-    let b = y.row;
-    let a_lows = a.lows;
-    let b_lows = b.lows;
-    let a_highs = a.highs;
-    let b_highs = b.highs;
-    let lows = least(a_lows, b_lows);
-    let highs = greatest(a_highs, b_highs);
-    one_row(Row {
-        lows: lows,
-        highs: highs,
-    })
+    if !x {
+        *row = *more;
+        return true;
+    }
+    widen(row, more);
+    true
+}
+
+// Whether all words are the same.
+fn equal<'a>(a: &'a [i32], b: &'a [i32]) -> bool
+    requires { ⌜ (length (now a) ≡ 32) × (length (now b) ≡ 32) ⌝ }
+    ensures { λ r. ⌜ r ≡ allBelow (λ i. eqZ (wordOf (now (a .entry)) i) (wordOf (now (b .entry)) i)) 32 ⌝ }
+{
+    let mut i = 0;
+    while i < 32 {
+        if !same(a[i], b[i]) {
+            return false;
+        }
+        i += 1;
+    }
+    true
+}
+
+// Whether what was left in a row's place, if there is some, is a copy of the row. Where there is none, a copy is put there.
+pub(crate) fn is_copy<'a, 'b>(some: bool, left: &'a mut Row, row: &'b Row) -> bool
+    ensures { λ r. ⌜ maybeBy some (rowIn (now (left .exit))) ≡ maybeBy some (rowIn (now (left .entry))) ⌝ }
+    ensures { λ r. ⌜ ((r ≡ true) → (now (left .exit) ≡ now (row .entry))) ⌝ }
+{
+    if !some {
+        *left = *row;
+        return true;
+    }
+    let l = &*left;
+    equal(l, row)
+}
+
+// Zeros in the row's place, where there is none.
+pub(crate) fn clear_unless(some: bool, row: &mut Row)
+    ensures { λ r. ⌜ rowIn (now (row .exit)) ≡ leftOf (maybeBy some (rowIn (now (row .entry)))) ⌝ }
+{
+    if !some {
+        *row = [0; 32];
+    }
 }

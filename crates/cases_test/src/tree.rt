@@ -6,10 +6,11 @@ use crate::print::print_pair;
 use crate::print::print_word;
 use crate::read::read_words;
 use crate::read::word_room;
-use analysis::Narrowed;
-use analysis::evaluate::decision;
+use analysis::Row;
+use analysis::evaluate::sides;
 use analysis::evaluate::value;
-use analysis::narrow::narrow;
+use analysis::rows::high_ends;
+use analysis::rows::low_ends;
 use analysis::rows::own;
 use interval::Decision;
 use interval::Interval;
@@ -68,27 +69,39 @@ fn print_row<'a>(lows: &'a [i32], highs: &'a [i32], n: usize) {
     }
 }
 
-fn print_narrowed(s: Narrowed, n: usize) {
+fn print_narrowed(some: bool, row: &Row, n: usize) {
     io::write_all(1, b"row");
-    if s.some {
-        let lows = s.row.lows;
-        let highs = s.row.highs;
-        print_row(&lows, &highs, n);
+    if some {
+        print_row(low_ends(row), high_ends(row), n);
     } else {
         io::write_all(1, b" none");
     }
 }
 
-fn answer<'a>(mode: usize, node: usize, nodes: &'a [i32], lows: &'a [i32], highs: &'a [i32]) {
+// What the condition node says of the row: by the mode its decision with its alarms, or one of the rows that it leaves of the first n variables.
+fn print_sides(mode: usize, nodes: &[i32], node: usize, row: &Row, n: usize) {
     let mut marks = mark_room();
-    if mode == 0 {
-        print_value(value(nodes, node, lows, highs, &mut marks));
+    let mut yes = [0i32; 32];
+    let mut no = [0i32; 32];
+    let s = sides(nodes, node, row, &mut marks, &mut yes, &mut no);
+    if mode == 1 {
+        print_decision(s.decision);
         print_marks(&marks);
-    } else if mode == 1 {
-        print_decision(decision(nodes, node, lows, highs, &mut marks));
+    } else if mode == 2 {
+        print_narrowed(s.no, &no, n);
+    } else {
+        print_narrowed(s.yes, &yes, n);
+    }
+}
+
+fn answer<'a>(mode: usize, node: usize, nodes: &'a [i32], lows: &'a [i32], highs: &'a [i32]) {
+    let row = own(lows, highs);
+    if mode == 0 {
+        let mut marks = mark_room();
+        print_value(value(nodes, node, &row, &mut marks));
         print_marks(&marks);
     } else {
-        print_narrowed(narrow(nodes, node, mode == 3, own(lows, highs)), lows.len());
+        print_sides(mode, nodes, node, &row, lows.len());
     }
     io::write_all(1, b"\n");
 }

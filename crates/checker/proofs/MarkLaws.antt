@@ -15,8 +15,8 @@ use Rattle.table.specs.Decode.{pointOf}
 use Rattle.table.specs.Tree.{arithAt, condAt}
 use Rattle.table.specs.declared.Point.{Point}
 use Rattle.table.specs.declared.Point.the-variants.{End, Assign, Test, Lock, Unlock}
-use Rattle.analysis.specs.declared.Row.{Row}
 use Rattle.analysis.specs.declared.Alarm.{Alarm}
+use Rattle.analysis.specs.Rows.{Row, ownOf}
 use Rattle.analysis.specs.Alarms.{lists, placeOf, markedOf}
 use Rattle.analysis.specs.Laws.{IsKind, Kinds}
 use Rattle.analysis.proofs.AlarmLaws.{lists-append, empty-kinds, append-kinds, marked-lists}
@@ -36,8 +36,8 @@ pairs-same f g (suc n) h =
 by-kinds : (t : List ℤ) (x : Point) (r : Row) → Kinds (alarmsBy t x r)
 unfolding alarmsBy
 by-kinds t End r = empty-kinds
-by-kinds t (Assign v e q) r = alarms-kinds (arithAt (nodesOf t) e) r
-by-kinds t (Test c y n) r = condAlarms-kinds (condAt (nodesOf t) c) r
+by-kinds t (Assign v e q) r = alarms-kinds (arithAt (nodesOf t) e) (ownOf r)
+by-kinds t (Test c y n) r = condAlarms-kinds (condAt (nodesOf t) c) (ownOf r)
 by-kinds t (Lock m q) r = empty-kinds
 by-kinds t (Unlock m q) r = empty-kinds
 

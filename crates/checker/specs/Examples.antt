@@ -10,7 +10,7 @@ use Rattle.interval.specs.Interval.{least, greatest, onEnds}
 use Rattle.interval.specs.Lattice.{withinOf, meetOf, joinOf}
 use Rattle.interval.specs.Arithmetic.{hullOf, belowOf, aboveOf, eitherPartOf, uncutOf, computedOf, negateOf, operateOf}
 use Rattle.interval.specs.Compare.{decideOf, compareOf}
-use Rattle.interval.specs.Narrow.{keptOf, cutsAt, cutsForOf, cutsOf}
+use Rattle.interval.specs.Narrow.{lowPastOf, highPastOf, withoutOf, keptOf, cutsAt, cutsForOf, cutsOf}
 use Rattle.interval.specs.declared.Interval.{Interval}
 use Rattle.interval.specs.declared.Interval.the-variants.{None, Between}
 use Rattle.interval.specs.declared.Computed.{Computed}
@@ -24,9 +24,9 @@ use Rattle.table.specs.Tree.{arithBy, condBy, arithF, arithAt, condAt}
 use Rattle.table.specs.Formed.{nodeFieldsOf, pointFieldsOf, fitsOf}
 use Rattle.table.specs.Uses.{refOf, refsBelow, countOf, usesOf}
 use Rattle.table.specs.Validate.{sizesStage, partsStage}
-use Rattle.analysis.specs.declared.Row.{Row}
 use Rattle.analysis.specs.declared.Alarm.{Alarm}
-use Rattle.analysis.specs.Rows.{Maybe, some, rowIf, thenRow, putOf, meetAtOf}
+use Rattle.words.specs.Tabulate.{tabulate}
+use Rattle.analysis.specs.Rows.{Row, slotsOf, Maybe, some, rowIf, thenRow, putOf, meetAtOf}
 use Rattle.analysis.specs.Alarms.{alarmOf, alarmIf, toldOf, lists}
 use Rattle.analysis.specs.Analysis.{rangeOn, alarmsOn, carryOf, carryBothOf, valueOf, alarmsOf, narrowOf}
 use Rattle.analysis.specs.Examples.{row, less, guarded}
@@ -133,8 +133,8 @@ table =
     ∷ example (buffer (bufferOf dividing filing (pos 7 ∷ pos 8 ∷ pos 9 ∷ []))) (buffer (pos 3 ∷ pos 2 ∷ pos 9 ∷ []))
     -- v < v on 0..9 narrows to 1..8
     ∷ example (leaves (narrowOf (condAt less 2) true (row (pos 0) (pos 9)))) (leaves (some (row (pos 1) (pos 8))))
-    -- v = 0 ? 0 : 10 / v on 0..5 lists zero
-    ∷ example (valued guarded 7 (row (pos 0) (pos 5))) (value (Between (pos 0) (pos 10)) (alarmOf 6 2 ∷ []))
+    -- v = 0 ? 0 : 10 / v on 0..5 lists nothing and gives 0..10
+    ∷ example (valued guarded 7 (row (pos 0) (pos 5))) (value (Between (pos 0) (pos 10)) [])
     -- -(MIN..0) is 0..MAX, overflow
     ∷ example (result (negateOf (Between least (pos 0)))) (result (gives (Between (pos 0) greatest) true false))
     -- 1..2 times MAX is MAX..MAX, overflow
@@ -150,12 +150,12 @@ Starred = map (λ (e : Example). e .got) table ≡ map (λ (e : Example). e .sai
 
 pub starred : Starred
 unfolding table minZ maxZ min4Z max4Z eqZ onEnds withinOf meetOf joinOf hullOf belowOf aboveOf eitherPartOf uncutOf computedOf negateOf operateOf
-    decideOf compareOf keptOf cutsAt cutsForOf cutsOf
+    decideOf compareOf lowPastOf highPastOf withoutOf keptOf cutsAt cutsForOf cutsOf
     numberOf unless orElse firstBad allBelow someBelow refuse andThen
     sharesOf startsOf pointsOf nodesOf fourBy fourOf firstIn laterOf lastIn firstOf taskOf
     kept shapeBy shapeFrom pointBy pointFrom arithBy condBy arithF arithAt condAt
     nodeFieldsOf pointFieldsOf fitsOf refOf refsBelow countOf usesOf sizesStage partsStage
-    rowIf thenRow putOf meetAtOf alarmIf toldOf lists rangeOn alarmsOn carryOf carryBothOf valueOf
+    tabulate slotsOf rowIf thenRow putOf meetAtOf alarmIf toldOf lists rangeOn alarmsOn carryOf carryBothOf valueOf
     entriesOf intervalsOf headsFrom lowsFrom proposalLength heldWordOf heldOf headsOf headOf lowsOf highsOf rowAt entriesAt entryLow entryHigh
     rowWithinOf assigned writtenOf outcomeIf outcomesBy outcomesOf
     allOutcomes rule8 heldInRange headInRange rule9 beforeOf rule10 holdsStart startPoint rule11 locksFit rowsFit rule12 rule13

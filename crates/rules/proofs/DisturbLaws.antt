@@ -15,8 +15,7 @@ use Rattle.interval.specs.Lattice.{withinOf}
 use Rattle.interval.specs.declared.Interval.the-variants.{None, Between}
 use Rattle.interval.proofs.IntegerLaws.{≤-trans, le-true, leZ-yes′}
 use Rattle.table.specs.Layout.{taskOf}
-use Rattle.analysis.specs.declared.Row.{Row}
-use Rattle.analysis.specs.Rows.{rowOf}
+use Rattle.analysis.specs.Rows.{Row, rowOf}
 use Rattle.rules.specs.Held.{disjointOf}
 use Rattle.rules.specs.Proposal.{entriesOf, heldOf, reachedOf, headOf, rowAt, entryLow, entryHigh}
 use Rattle.rules.specs.Rules.{implies, takes, disturbs, undisturbed, rule15}

@@ -20,12 +20,12 @@ use Rattle.table.specs.Decode.{pointOf}
 use Rattle.table.specs.Tree.{arithAt, condAt}
 use Rattle.table.specs.declared.Point.{Point}
 use Rattle.table.specs.declared.Point.the-variants.{End, Assign, Test, Lock, Unlock}
-use Rattle.analysis.specs.declared.Row.{Row}
-use Rattle.analysis.specs.declared.Narrowed.{Narrowed}
-use Rattle.analysis.specs.Rows.{rowOf, rangeOf, ownOf, Maybe, some, answerOf, maybeBy, asMaybe, rowIf, each}
+use Rattle.analysis.specs.Rows.{Row, rowOf, rangeOf, ownOf, some, maybeBy, rowIf, each}
 use Rattle.analysis.specs.Alarms.{markedOf}
 use Rattle.analysis.specs.Analysis.{valueOf, narrowOf}
-use Rattle.analysis.proofs.RowCodeLaws.{maybe-answer}
+use Rattle.analysis.specs.Arrays.{leftOf, splitOf}
+use Rattle.analysis.specs.declared.Split.{Split}
+use Rattle.analysis.proofs.RowCodeLaws.{left-again}
 use Rattle.rules.specs.declared.Fits.{Fits}
 use Rattle.rules.specs.Held.{hasOf, withOf, withoutOf}
 use Rattle.rules.specs.Proposal.{heldOf, rowAt, restAt}
@@ -61,18 +61,14 @@ module _ (t w : List ℤ) where
       rw (f, x .variables, x .low, x .high, e, and-true (eqb (heldOf w q) s), and-true (rowWithinOf (sizesOf t .variables) r (rowAt t w q)))
 
   -- ---- a side of a test, by what narrowing left
-  pub side-none : (s q : ℕ) (n : Narrowed) {y : Fits} → not (n .some) ≡ true → y ≡ allFit → y ≡ sideOf t w (outcomeIf (asMaybe n) s q)
+  pub side-none : (s q : ℕ) (n : Bool) (r : Row) {y : Fits} → not n ≡ true → y ≡ allFit → y ≡ sideOf t w (outcomeIf (maybeBy n r) s q)
   unfolding maybeBy outcomeIf locksFit rowsFit allOutcomes
-  side-none s q n e f = rw (not-true (n .some) e) f
+  side-none s q n r e f = rw (not-true n e) f
 
-  pub side-some : (s q : ℕ) (n : Narrowed) {h v : ℕ} {lows highs : List ℤ} {flow : Bool} → not (n .some) ≡ false → h ≡ heldOf w q
-      → RowRead q v lows highs → flow ≡ rowWithinOf v (n .row) (rowOf lows highs) → fits (eqb h s) flow true ≡ sideOf t w (outcomeIf (asMaybe n) s q)
+  pub side-some : (s q : ℕ) (n : Bool) (r : Row) {h v : ℕ} {lows highs : List ℤ} {flow : Bool} → not n ≡ false → h ≡ heldOf w q
+      → RowRead q v lows highs → flow ≡ rowWithinOf v r (rowOf lows highs) → fits (eqb h s) flow true ≡ sideOf t w (outcomeIf (maybeBy n r) s q)
   unfolding maybeBy
-  side-some s q n e g x f = rw (not-false (n .some) e) (one-side s q (n .row) g x f)
-
-  side-narrowed : (s q : ℕ) (x : Maybe) {n : Narrowed} {y : Fits} → n ≡ answerOf x → y ≡ sideOf t w (outcomeIf (asMaybe n) s q)
-      → y ≡ sideOf t w (outcomeIf x s q)
-  side-narrowed s q x e f = f ∙ rw (e, maybe-answer x)
+  side-some s q n r e g x f = rw (not-false n e) (one-side s q r g x f)
 
   module _ (p s : ℕ) (r : Row) where
     -- a point that writes nothing, by its outcomes
@@ -91,14 +87,14 @@ module _ (t w : List ℤ) where
     end-fits e = no-outcome End refl refl e
 
     -- ---- an assignment
-    pub assign-none : (v e q : ℕ) {nodes : List ℤ} {i : Interval} {y : Fits} → nodes ≡ nodesOf t → i ≡ valueOf (arithAt nodes e) r → i ≡ None
+    pub assign-none : (v e q : ℕ) {nodes : List ℤ} {i : Interval} {y : Fits} → nodes ≡ nodesOf t → i ≡ valueOf (arithAt nodes e) (ownOf r) → i ≡ None
         → y ≡ allFit → y ≡ fitsBy t w (Assign v e q) p s r
     unfolding outcomesBy writtenOf assigned outcomeIf writes filed
     assign-none v e q f g h k = no-outcome (Assign v e q) (rw (← f, ← g, h)) (rw (← f, ← g, h)) k
 
     -- lo and hi are the ends of what is written, lo′ and hi′ the same as the code hands them on
     pub assign-some : (v e q : ℕ) {nodes : List ℤ} {i : Interval} {lo hi lo′ hi′ : ℤ} {h n u : ℕ} {lows highs : List ℤ} {flow write : Bool}
-        → nodes ≡ nodesOf t → i ≡ valueOf (arithAt nodes e) r → i ≡ Between lo hi → lo′ ≡ lo → hi′ ≡ hi → h ≡ heldOf w q → RowRead q n lows highs
+        → nodes ≡ nodesOf t → i ≡ valueOf (arithAt nodes e) (ownOf r) → i ≡ Between lo hi → lo′ ≡ lo → hi′ ≡ hi → h ≡ heldOf w q → RowRead q n lows highs
         → flow ≡ rowWithinOf n (rowOf (set (r .lows) v lo′) (set (r .highs) v hi′)) (rowOf lows highs) → u ≡ taskOf t p
         → write ≡ filed t w u s v (Between lo′ hi′) → fits (eqb h s) flow write ≡ fitsBy t w (Assign v e q) p s r
     unfolding fitsBy outcomesBy writtenOf assigned writes
@@ -107,13 +103,13 @@ module _ (t w : List ℤ) where
         (ap (λ (y : Fits). fits (y .locks) (y .flow) (filed t w (taskOf t p) s v (Between lo hi))) (one-side s q _ d y (rw (a, b) at j)))
 
     -- ---- a test
-    pub test-fits : (c y n : ℕ) {nodes : List ℤ} {row : Row} {a b : Narrowed} {i o : Fits} → nodes ≡ nodesOf t → row ≡ ownOf r
-        → a ≡ answerOf (narrowOf (condAt nodes c) true row) → i ≡ sideOf t w (outcomeIf (asMaybe a) s y)
-        → b ≡ answerOf (narrowOf (condAt nodes c) false row) → o ≡ sideOf t w (outcomeIf (asMaybe b) s n)
+    pub test-fits : (c y n : ℕ) {nodes : List ℤ} {row a b : Row} {said : Split} {i o : Fits} → nodes ≡ nodesOf t → row ≡ ownOf r
+        → said ≡ splitOf (condAt nodes c) row → a ≡ leftOf (narrowOf (condAt nodes c) true row) → b ≡ leftOf (narrowOf (condAt nodes c) false row)
+        → i ≡ sideOf t w (outcomeIf (maybeBy (said .yes) a) s y) → o ≡ sideOf t w (outcomeIf (maybeBy (said .no) b) s n)
         → fits (i .locks && o .locks) (i .flow && o .flow) true ≡ fitsBy t w (Test c y n) p s r
     unfolding fitsBy outcomesBy writes locksFit rowsFit
-    test-fits c y n e f g h j k =
-        rw (side-narrowed s y _ (rw (e, f) at g) h, side-narrowed s n _ (rw (e, f) at j) k, all-append, all-append)
+    test-fits c y n e f d g j h k =
+        rw (h, k, rw (e, f) at d, rw (e, f) at g, rw (e, f) at j, left-again (narrowOf (condAt (nodesOf t) c) true (ownOf r)), left-again (narrowOf (condAt (nodesOf t) c) false (ownOf r)), all-append, all-append)
 
     -- ---- a lock
     pub lock-held : (m q : ℕ) {y : Fits} → hasOf s m ≡ true → y ≡ allFit → y ≡ fitsBy t w (Lock m q) p s r

@@ -18,8 +18,7 @@ use Rattle.interval.specs.declared.Interval.{Interval}
 use Rattle.interval.specs.declared.Interval.the-variants.{None, Between}
 use Rattle.interval.proofs.IntegerLaws.{leZ-cases, le-true, le-false, ≤-<-trans, <-≤-trans, min-left, min-right, max-left, max-right, min-is, max-is}
 use Rattle.interval.proofs.MachineArithmetic.{word, handed32}
-use Rattle.analysis.specs.declared.Row.{Row}
-use Rattle.analysis.specs.Rows.{rowOf, rangeOf, each}
+use Rattle.analysis.specs.Rows.{Row, rowOf, rangeOf, each}
 use Rattle.analysis.proofs.RowLaws.{each-is}
 
 -- ---- the test at a variable, and the loop over the variables

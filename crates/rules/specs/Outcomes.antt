@@ -15,8 +15,7 @@ use Rattle.table.specs.Decode.{pointOf}
 use Rattle.table.specs.Tree.{arithAt, condAt}
 use Rattle.table.specs.declared.Point.{Point}
 use Rattle.table.specs.declared.Point.the-variants.{End, Assign, Test, Lock, Unlock}
-use Rattle.analysis.specs.declared.Row.{Row}
-use Rattle.analysis.specs.Rows.{rowOf, rangeOf, ownOf, Maybe, none, some, rowIf, each}
+use Rattle.analysis.specs.Rows.{Row, rowOf, rangeOf, ownOf, Maybe, none, some, rowIf, each}
 use Rattle.analysis.specs.Analysis.{valueOf, narrowOf}
 use Rattle.rules.specs.Held.{hasOf, withOf, withoutOf}
 use Rattle.rules.specs.Proposal.{heldOf, rowAt, restAt}
@@ -42,9 +41,9 @@ unfoldable pub assigned : Interval → ℕ → Row → Maybe
 assigned None v r = none
 assigned (Between lo hi) v r = some (rowOf (set (r .lows) v lo) (set (r .highs) v hi))
 
--- what an assignment at this point writes
+-- what an assignment at this point writes, on the row in sixteen slots
 unfoldable pub writtenOf : List ℤ → ℕ → Row → Interval
-writtenOf t e r = valueOf (arithAt (nodesOf t) e) r
+writtenOf t e r = valueOf (arithAt (nodesOf t) e) (ownOf r)
 
 -- ---- an outcome, or none
 unfoldable pub outcomeIf : Maybe → ℕ → ℕ → List Outcome

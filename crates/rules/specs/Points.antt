@@ -4,10 +4,9 @@ use Prim.Native.Nat.{ℕ}
 use mathlib.Core.Bool.{true}
 use mathlib.Core.List.{List}
 use lib.IntN.{ℤ}
-use Rattle.words.specs.declared.Found.{Found}
 use Rattle.words.specs.First.{orElse, unless}
 use Rattle.table.specs.declared.Point.{Point}
-use Rattle.analysis.specs.declared.Row.{Row}
+use Rattle.analysis.specs.Rows.{Row}
 use Rattle.rules.specs.declared.Fits.{Fits}
 use Rattle.rules.specs.declared.Faults.{Faults}
 use Rattle.rules.specs.Outcomes.{Outcome, outcomesBy}

@@ -7,8 +7,7 @@ use lib.Dec.{eqb}
 use lib.IntN.{ℤ}
 use Rattle.words.specs.Words.{wordOf, numberOf, numberAt, partOf}
 use Rattle.table.specs.Layout.{sizesOf}
-use Rattle.analysis.specs.declared.Row.{Row}
-use Rattle.analysis.specs.Rows.{rowOf}
+use Rattle.analysis.specs.Rows.{Row, rowOf}
 
 -- ---- sizes
 unfoldable pub entriesOf : List ℤ → ℕ

@@ -16,8 +16,7 @@ use Rattle.table.specs.Layout.{sizesOf, startsOf, pointsOf, firstOf, taskOf}
 use Rattle.table.specs.Decode.{pointOf}
 use Rattle.table.specs.declared.Point.{Point}
 use Rattle.table.specs.declared.Point.the-variants.{End, Assign, Test, Lock, Unlock}
-use Rattle.analysis.specs.declared.Row.{Row}
-use Rattle.analysis.specs.Rows.{rangeOf}
+use Rattle.analysis.specs.Rows.{Row, rangeOf}
 use Rattle.rules.specs.Held.{hasOf, disjointOf}
 use Rattle.rules.specs.Proposal.{entriesOf, headsFrom, lowsFrom, heldWordOf, heldOf, reachedOf, headOf, lowsOf, highsOf, rowAt, restAt, entryLow, entryHigh}
 use Rattle.rules.specs.Outcomes.{Outcome, rowWithinOf, writtenOf, outcomesOf}

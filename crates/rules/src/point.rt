@@ -12,10 +12,11 @@ use crate::rows::meets;
 use crate::rows::met_within;
 use crate::rows::row_within;
 use crate::rows::written_within;
-use analysis::Narrowed;
-use analysis::evaluate::decision;
+use analysis::Row;
+use analysis::evaluate::sides;
 use analysis::evaluate::value;
-use analysis::narrow::narrow;
+use analysis::rows::high_ends;
+use analysis::rows::low_ends;
 use analysis::rows::own;
 use interval::Interval;
 use table::Point;
@@ -28,7 +29,8 @@ ghost use Prim.Native.Nat.{_<_, _≤_};
 ghost use Rattle.table.specs.Layout.{sizesOf, pointsOf, nodesOf};
 ghost use Rattle.table.specs.Decode.{pointOf};
 ghost use Rattle.table.specs.declared.Point.the-variants.{Assign, Test, Lock, Unlock};
-ghost use Rattle.analysis.specs.Rows.{rowOf, asMaybe};
+ghost use Rattle.analysis.specs.Rows.{rowOf, maybeBy};
+ghost use Rattle.analysis.specs.Arrays.{rowIn};
 ghost use Rattle.analysis.specs.Alarms.{markedOf};
 ghost use Rattle.rules.specs.Proposal.{rowAt};
 ghost use Rattle.rules.specs.Outcomes.{outcomeIf};
@@ -70,7 +72,8 @@ fn assign_fits<'a, 'b>(
     ensures { λ r. ⌜ r ≡ fitsBy (now (t .entry)) (now (w .entry)) (Assign v e q) p s (rowOf (now (lows .entry)) (now (highs .entry))) ⌝ }
     ensures { λ r. ⌜ now (marks .exit) ≡ markedOf (now (marks .entry)) (alarmsBy (now (t .entry)) (Assign v e q) (rowOf (now (lows .entry)) (now (highs .entry)))) ⌝ }
 {
-    let x = value(nodes, e, lows, highs, marks);
+    let row = own(lows, highs);
+    let x = value(nodes, e, &row, marks);
     let Interval::Between(low, high) = x else {
         return no_outcome();
     };
@@ -90,7 +93,7 @@ fn assign_fits<'a, 'b>(
     }
 }
 
-// A side of a test that goes on at q with the held set s, by what narrowing left.
+// A side of a test that goes on at q with the held set s, by what narrowing left: whether there is a row, and the row.
 fn side<'a>(
     t: &'a [i32],
     w: &'a [i32],
@@ -98,21 +101,21 @@ fn side<'a>(
     all_highs: &'a [i32],
     s: usize,
     q: usize,
-    n: Narrowed,
+    some: bool,
+    row: &'a Row,
 ) -> Fits
     requires { ⌜ Rows (now t) (now w) (now «all_lows») (now «all_highs») ⌝ }
     requires { ⌜ q ≤ 4294967295 ⌝ }
-    ensures { λ r. ⌜ r ≡ sideOf (now (t .entry)) (now (w .entry)) (outcomeIf (asMaybe n) s q) ⌝ }
+    ensures { λ r. ⌜ r ≡ sideOf (now (t .entry)) (now (w .entry)) (outcomeIf (maybeBy some (rowIn (now (row .entry)))) s q) ⌝ }
 {
-    if !n.some {
+    if !some {
         return no_outcome();
     }
-    let row = n.row;
     Fits {
         locks: held(w, q) == s,
         flow: row_within(
-            &row.lows,
-            &row.highs,
+            low_ends(row),
+            high_ends(row),
             row_lows(t, w, all_lows, q),
             row_highs(t, w, all_highs, q),
             number_at(t, 1),
@@ -121,7 +124,7 @@ fn side<'a>(
     }
 }
 
-// A test of the condition c, going on at yes or at no: the condition is evaluated once for its alarms, once for each side.
+// A test of the condition c, going on at yes or at no: the condition is evaluated once, for its alarms and for both sides.
 fn test_fits<'a, 'b>(
     t: &'a [i32],
     w: &'a [i32],
@@ -143,18 +146,12 @@ fn test_fits<'a, 'b>(
     ensures { λ r. ⌜ r ≡ fitsBy (now (t .entry)) (now (w .entry)) (Test c y n) p s (rowOf (now (lows .entry)) (now (highs .entry))) ⌝ }
     ensures { λ r. ⌜ now (marks .exit) ≡ markedOf (now (marks .entry)) (alarmsBy (now (t .entry)) (Test c y n) (rowOf (now (lows .entry)) (now (highs .entry)))) ⌝ }
 {
-    decision(nodes, c, lows, highs, marks);
     let row = own(lows, highs);
-    let taken = side(t, w, all_lows, all_highs, s, y, narrow(nodes, c, true, row));
-    let other = side(
-        t,
-        w,
-        all_lows,
-        all_highs,
-        s,
-        n,
-        narrow(nodes, c, false, row),
-    );
+    let mut yes = row;
+    let mut no = row;
+    let said = sides(nodes, c, &row, marks, &mut yes, &mut no);
+    let taken = side(t, w, all_lows, all_highs, s, y, said.yes, &yes);
+    let other = side(t, w, all_lows, all_highs, s, n, said.no, &no);
     Fits {
         locks: taken.locks & other.locks,
         flow: taken.flow & other.flow,

@@ -6,8 +6,7 @@ use mathlib.Core.Bool.{Bool, true, false}
 use mathlib.Core.List.{List, [], _∷_, _++_}
 use lib.IntN.{ℤ}
 use Rattle.words.proofs.Bools.{clash, and-left, and-right}
-use Rattle.analysis.specs.declared.Row.{Row}
-use Rattle.analysis.specs.Rows.{Maybe, none, some, Inside, Kept}
+use Rattle.analysis.specs.Rows.{Row, Maybe, none, some, Inside, Kept}
 use Rattle.rules.specs.Outcomes.{Outcome, outcomeIf, onlyIf}
 use Rattle.rules.specs.Rules.{allOutcomes}
 

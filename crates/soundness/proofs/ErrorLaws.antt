@@ -15,7 +15,7 @@ use Rattle.table.specs.Layout.{sizesOf, pointsOf, nodesOf}
 use Rattle.table.specs.Decode.{pointOf}
 use Rattle.table.specs.Tree.{arithAt, condAt}
 use Rattle.table.specs.Meaning.{result, truth}
-use Rattle.analysis.specs.Rows.{Inside}
+use Rattle.analysis.specs.Rows.{ownOf, Inside}
 use Rattle.analysis.specs.Alarms.{lists}
 use Rattle.analysis.specs.Laws.{IsKind}
 use Rattle.analysis.proofs.Laws.{proved as laws}
@@ -46,19 +46,19 @@ listed-at t w p n k h r below kind e =
     on-holds (raised t w) (sizesOf t .nodes) n k below kind
     ∙ one-someBelow (λ p. lists n k (alarmsAt t w p)) (sizesOf t .points) p h (rw r e)
 
-module _ (t w ws : List ℤ) (vs : List ℤ) (p : ℕ) (h : p < sizesOf t .points) (r : reachedOf w p ≡ true) (i : Inside vs (rowAt t w p)) where
+module _ (t w ws : List ℤ) (vs : List ℤ) (p : ℕ) (h : p < sizesOf t .points) (r : reachedOf w p ≡ true) (i : Inside vs (ownOf (rowAt t w p))) where
   pub error-on-list : (v e g at n k q : ℕ) → pointOf (pointsOf t) p ≡ Assign v e g
       → result (arithAt (nodesOf t) e) vs ws at ≡ Error n k q → onList n k (alarmWords t w) ≡ true
   unfolding alarmsBy
   error-on-list v e g at n k q is x =
-      let listed = laws .error-listed (arithAt (nodesOf t) e) (rowAt t w p) vs ws at i n k q x in
-      listed-at t w p n k h r (arith-named t vs ws e at n k q x) (laws .alarms-kinds (arithAt (nodesOf t) e) (rowAt t w p) .kind n k listed)
+      let listed = laws .error-listed (arithAt (nodesOf t) e) (ownOf (rowAt t w p)) vs ws at i n k q x in
+      listed-at t w p n k h r (arith-named t vs ws e at n k q x) (laws .alarms-kinds (arithAt (nodesOf t) e) (ownOf (rowAt t w p)) .kind n k listed)
       (rw is listed)
 
   pub failure-on-list : (c y f at n k q : ℕ) → pointOf (pointsOf t) p ≡ Test c y f
       → truth (condAt (nodesOf t) c) vs ws at ≡ Failure n k q → onList n k (alarmWords t w) ≡ true
   unfolding alarmsBy
   failure-on-list c y f at n k q is x =
-      let listed = laws .failure-listed (condAt (nodesOf t) c) (rowAt t w p) vs ws at i n k q x in
-      listed-at t w p n k h r (cond-named t vs ws c at n k q x) (laws .condAlarms-kinds (condAt (nodesOf t) c) (rowAt t w p) .kind n k listed)
+      let listed = laws .failure-listed (condAt (nodesOf t) c) (ownOf (rowAt t w p)) vs ws at i n k q x in
+      listed-at t w p n k h r (cond-named t vs ws c at n k q x) (laws .condAlarms-kinds (condAt (nodesOf t) c) (ownOf (rowAt t w p)) .kind n k listed)
       (rw is listed)

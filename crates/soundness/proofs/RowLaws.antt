@@ -36,8 +36,7 @@ use Rattle.words.proofs.FillLaws.{length-tabulate, tabulate-front}
 use Rattle.words.proofs.PartLaws.{part-length}
 use Rattle.table.specs.Layout.{sizesOf, startsOf}
 use Rattle.table.proofs.LayoutLaws.{part-within}
-use Rattle.analysis.specs.declared.Row.{Row}
-use Rattle.analysis.specs.Rows.{rangeOf, slotsOf, ownOf, rowIf, Inside, Kept}
+use Rattle.analysis.specs.Rows.{Row, rangeOf, slotsOf, ownOf, rowIf, Inside, Kept}
 use Rattle.analysis.proofs.RowLaws.{set-all, each-is}
 use Rattle.rules.specs.Proposal.{rowsOf, intervalsOf, lowsFrom, proposalLength, lowsOf, highsOf, rowAt}
 use Rattle.rules.specs.Outcomes.{rowWithinOf, meetRowsOf, assigned}

@@ -31,8 +31,7 @@ use Rattle.table.specs.Decode.{pointOf}
 use Rattle.table.specs.Passes.{Passes}
 use Rattle.table.proofs.TaskLaws.{first-le}
 use Rattle.table.proofs.PassLaws.{passes}
-use Rattle.analysis.specs.declared.Row.{Row}
-use Rattle.analysis.specs.Rows.{Inside}
+use Rattle.analysis.specs.Rows.{Row, Inside}
 use Rattle.rules.specs.Held.{hasOf, disjointOf}
 use Rattle.rules.specs.Proposal.{entriesOf, headsFrom, lowsFrom, heldWordOf, heldOf, reachedOf, headOf, rowAt, restAt, entryLow, entryHigh}
 use Rattle.rules.specs.Outcomes.{Outcome, rowWithinOf, writtenOf, outcomeIf, onlyIf, outcomesBy, outcomesOf}

@@ -149,6 +149,10 @@ module _ {t w : List ℤ} {room count : ℕ} {s : State} (ok : Accepts t w room 
         move-keeps q (heldAt u) vs (s .owners) same (omega (arith, held-small ok p stands)) ar n-values (i .n-owners)
         (λ m hm. i .holds u m hu hm) (λ x d m hm. refl) there rest
 
+    -- the values lie within the row in sixteen slots, on which an expression is read
+    own-row : Inside (s .values) (ownOf (rowAt t w p))
+    own-row = let few = formed ok .variables .high in own-inside (rowAt t w p) (lows-few t w p few) (highs-few t w p few) row
+
     -- ---- assign
     assign-keeps : (v e q at : ℕ) → instruction ≡ Assign v e q → (x : Evaluation) → result (arithAt (nodesOf t) e) (s .values) schedule at ≡ x
         → Inv t w (assignBy x s u v q .state)
@@ -158,7 +162,7 @@ module _ {t w : List ℤ} {room count : ℕ} {s : State} (ok : Accepts t w room 
         let hv : v < sizesOf t .variables = fm .0 in
         let hl : v < length (s .values) = omega (arith, formed ok .variables .high, i .n-values) in
         let hp : p < rowsOf t = omega (arith, stands .point) in
-        let holds = laws .value-contains (arithAt (nodesOf t) e) (rowAt t w p) (s .values) schedule at row z g ev in
+        let holds = laws .value-contains (arithAt (nodesOf t) e) (ownOf (rowAt t w p)) (s .values) schedule at own-row z g ev in
         let kept = assigned-keeps (writtenOf t e (rowAt t w p)) v (rowAt t w p) z hl
         (omega (arith, lows-length t w (ok .whole) p hp)) (omega (arith, highs-length t w (ok .whole) p hp)) holds row in
         let none : Past t (set (s .values) v z) = λ x l. getD-set-other (s .values) v x z (pos 0) (λ is. omega arith) ∙ past x l in
@@ -167,7 +171,7 @@ module _ {t w : List ℤ} {room count : ℕ} {s : State} (ok : Accepts t w room 
         (length-set (s .values) v z ∙ i .n-values) (filed-there v z k) (filed-rest v z k)
     assign-keeps v e q at pe (Error n k g) ev =
         halted (formed ok) i u hu n k
-        (error-on-list t w schedule (s .values) p (stands .point) (reached-test ok p stands) row
+        (error-on-list t w schedule (s .values) p (stands .point) (reached-test ok p stands) own-row
         v e q at n k g pe ev)
 
     -- ---- test
@@ -177,9 +181,7 @@ module _ {t w : List ℤ} {room count : ℕ} {s : State} (ok : Accepts t w room 
 
     side-kept : (c at : ℕ) (b : Bool) (g : ℕ) → truth (condAt (nodesOf t) c) (s .values) schedule at ≡ Truth b g → Kept (s .values) (side c b)
     side-kept c at b g ev =
-        let few = formed ok .variables .high in
-        laws .narrow-keeps (condAt (nodesOf t) c) (ownOf (rowAt t w p)) (s .values) schedule at
-        (own-inside (rowAt t w p) (lows-few t w p few) (highs-few t w p few) row) b g ev
+        laws .narrow-keeps (condAt (nodesOf t) c) (ownOf (rowAt t w p)) (s .values) schedule at own-row b g ev
 
     side-keeps : (x : Point) → instruction ≡ x → (q : ℕ) → SameTask t p q
         → Brings (outcomesBy t w x (heldAt u) (rowAt t w p)) q (heldAt u) (s .values) → Inv t w (movedTo s u q (s .values) (s .owners))
@@ -196,7 +198,7 @@ module _ {t w : List ℤ} {room count : ℕ} {s : State} (ok : Accepts t w room 
         (brings-right (outcomeIf (side c true) (heldAt u) y) _ (brings-if (side c false) (side-kept c at false g ev)))
     test-keeps c y n at pe (Failure e k g) ev =
         halted (formed ok) i u hu e k
-        (failure-on-list t w schedule (s .values) p (stands .point) (reached-test ok p stands) row
+        (failure-on-list t w schedule (s .values) p (stands .point) (reached-test ok p stands) own-row
         c y n at e k g pe ev)
 
     -- ---- lock and unlock

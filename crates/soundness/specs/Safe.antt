@@ -8,7 +8,7 @@ use lib.IntN.{ℤ, pos, negsuc}
 use Rattle.words.specs.Words.{wordOf}
 use Rattle.interval.specs.Interval.{Within}
 use Rattle.table.specs.Layout.{sizesOf}
-use Rattle.analysis.specs.declared.Row.{Row}
+use Rattle.analysis.specs.Rows.{Row}
 use Rattle.rules.specs.Held.{hasOf}
 use Rattle.rules.specs.Proposal.{heldWordOf, heldOf, rowAt, restAt}
 use Rattle.checker.specs.Laws.{onList}

@@ -1,8 +1,10 @@
-//! Families of cases: for each sentence of document 01 and of request 1 some
-//! with the answer written out, and drawn ones whose answer is the peer's. Whole
-//! answers are compared, and every word of a lent slice.
+//! Families of cases: for each sentence of document 01 and of requests 1 and 2
+//! some with the answer written out, and drawn ones whose answer is the peer's.
+//! Whole answers are compared, and every word of a lent slice.
 
+mod assigned;
 mod checks;
+mod choices;
 mod claim;
 mod draw;
 mod lines;
@@ -31,6 +33,7 @@ const FAMILIES: &[(&str, Family)] = &[
     ("lines", lines::run),
     ("trees", trees::run),
     ("remainders", remainders::run),
+    ("choices", choices::run),
     ("tower", tower::run),
 ];
 

@@ -4,7 +4,7 @@ mod proposal;
 
 pub use proposal::{Entry, Proposal};
 
-use crate::analysis::{arithmetic, condition, narrow, Ends, Raised, Row};
+use crate::analysis::{arithmetic, split, Ends, Raised, Row, Side};
 use crate::table::{Point, Table};
 use crate::words::Refusal;
 
@@ -104,13 +104,14 @@ impl Pass<'_> {
                     self.outcome(at, next, held, &row)?;
                 }
             }
-            Point::Test { condition: node, yes, no } => {
+            Point::Test { condition, yes, no } => {
                 let row = ends.row();
-                condition(&table.nodes, node, &row, &mut self.raised);
-                for (wanted, next) in [(true, yes), (false, no)] {
-                    let mut row = row;
-                    if narrow(&table.nodes, node, wanted, &mut row) {
-                        self.outcome(at, next, held, &row)?;
+                let (mut true_row, mut false_row) = (Side::Whole, Side::Whole);
+                let rows = (&mut true_row, &mut false_row);
+                split(&table.nodes, condition, &row, rows.0, rows.1, &mut self.raised);
+                for (side, next) in [(&true_row, yes), (&false_row, no)] {
+                    if let Some(row) = side.row(&row) {
+                        self.outcome(at, next, held, row)?;
                     }
                 }
             }

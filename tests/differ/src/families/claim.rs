@@ -3,18 +3,22 @@
 //! some of the schedule's first words.
 
 use super::checks::{self, shown};
+use super::choices::{branches, drawn, LEAST};
 use super::Tally;
 use crate::answers::{differences, Answer};
+use crate::build::{self, assign, input, lock, test, unlock};
 use peer::analysis::Ends;
 use peer::check::Proposal;
 use peer::generate::{table, Draft, Random};
-use peer::table::{Node, Table};
+use peer::table::{Node, Point, Table};
 use peer::words::ALARM_WORDS;
 use rangecheck::STATE_WORDS;
 use std::path::Path;
 
-/// How many proposals that fit are drawn, and schedules for each.
+/// How many proposals that fit are drawn, for any tables and for those in which
+/// tasks assign and test choices, and schedules for each.
 const DRAWN: usize = 600;
+const GUARDED: usize = 300;
 const SCHEDULES: usize = 4;
 
 /// A proposal that the library accepts, with the list that it wrote.
@@ -57,6 +61,20 @@ impl State<'_> {
 }
 
 impl Accepted<'_> {
+    /// The points with a choice of which it shows, in an interval or an alarm,
+    /// that a branch is read on a part of the row.
+    fn narrowed_choices(&self) -> Vec<i64> {
+        let narrows = |point: &usize| match self.table.points[*point] {
+            _ if self.proposal.held[*point] == -1 => false,
+            Point::Assign { node, .. } | Point::Test { condition: node, .. } => {
+                branches::narrows(&self.table.nodes, node, &self.proposal.row(*point).row())
+            }
+            _ => false,
+        };
+        let points = 0..self.table.points.len();
+        points.filter(narrows).map(|point| point as i64).collect()
+    }
+
     /// The sentences of demand 3 that a state breaks.
     fn broken(&self, state: &State) -> Vec<String> {
         let mut found = Vec::new();
@@ -107,8 +125,27 @@ fn schedule(random: &mut Random, tasks: usize) -> Vec<i32> {
     (0..length).map(|_| word()).collect()
 }
 
-fn fitting(random: &mut Random) -> (Vec<i32>, Vec<i32>) {
-    let table = table(random);
+/// Two tasks that share two variables. Each goes round: it takes in a word,
+/// assigns a choice, tests one and, if that holds, assigns another under a lock.
+fn guarded_table(random: &mut Random) -> Vec<i32> {
+    let mut points = Vec::new();
+    for first in [0, 6] {
+        let (own, other) = (random.below(2) as i32, random.below(2) as i32);
+        let low = random.below(7) as i32 - 5;
+        points.extend([
+            assign(own, input(low, low + random.below(12) as i32), first + 1),
+            assign(other, drawn::choice_of(random, 2, 1), first + 2),
+            test(drawn::condition_of(random, 2, 1), first + 3, first),
+            lock(0, first + 4),
+            assign(own, drawn::choice_of(random, 2, 2), first + 5),
+            unlock(0, first),
+        ]);
+    }
+    let starts = [0, 1].map(|_| random.below(7) as i32 - 2);
+    build::table(&[6, 6], &starts, 1, &points)
+}
+
+fn fitting(random: &mut Random, table: Vec<i32>) -> (Vec<i32>, Vec<i32>) {
     let decoded = Table::decode(&table).expect("generated tables are valid");
     let proposal = Draft::settle(&decoded, random).words();
     (table, proposal)
@@ -118,7 +155,14 @@ pub fn run(_bin: &Path, tally: &mut Tally) {
     let mut random = Random::new(20261115);
     let mut cases: Vec<_> =
         checks::given().into_iter().map(|case| (case.table, case.proposal)).collect();
-    cases.extend((0..DRAWN).map(|_| fitting(&mut random)));
+    for _ in 0..DRAWN {
+        let table = table(&mut random);
+        cases.push(fitting(&mut random, table));
+    }
+    for _ in 0..GUARDED {
+        let table = guarded_table(&mut random);
+        cases.push(fitting(&mut random, table));
+    }
     for (table, proposal) in &cases {
         let answer = Answer::check(table, proposal, ALARM_WORDS);
         let Ok(count) = answer.said else { continue };
@@ -138,6 +182,7 @@ pub fn run(_bin: &Path, tally: &mut Tally) {
     tally.expect("proposals with alarms", 1);
     tally.expect("states with a stopped task", 1);
     tally.expect("states with a stop at a remainder", 1);
+    tally.expect("steps by a choice on a part of the row", LEAST);
 }
 
 /// Plays schedules of an accepted proposal.
@@ -154,8 +199,10 @@ fn play(
         Err(refused) => return tally.case(vec![format!("accepted, not {refused:?}")], || on(&[])),
     };
     let accepted = Accepted { table: decoded, proposal, alarms };
+    let narrowed = accepted.narrowed_choices();
     for _ in 0..SCHEDULES {
         let schedule = schedule(random, decoded.tasks);
+        let mut before = Vec::new();
         for length in 0..=schedule.len() {
             let words = &schedule[..length];
             let run = Answer::run(table, words, STATE_WORDS);
@@ -163,14 +210,24 @@ fn play(
             let state = State::new(run.slice());
             let mut found = accepted.broken(&state);
             found.extend(differences("run", &run, &by_peer));
-            if state.stops().count() > 0 {
-                tally.count("states with a stopped task");
+            count(tally, decoded, &state);
+            let mut moved = state.points.iter().zip(&before).filter(|(to, from)| to != from);
+            if moved.any(|(_, from)| narrowed.contains(from)) {
+                tally.count("steps by a choice on a part of the row");
             }
-            let is_remainder = |node| matches!(decoded.nodes.get(node), Some(Node::Remainder(..)));
-            if state.stops().any(is_remainder) {
-                tally.count("states with a stop at a remainder");
-            }
+            before = state.points.to_vec();
             tally.case(found, || on(words));
         }
+    }
+}
+
+/// What there is to ask of a state.
+fn count(tally: &mut Tally, table: &Table, state: &State) {
+    if state.stops().count() > 0 {
+        tally.count("states with a stopped task");
+    }
+    let is_remainder = |node| matches!(table.nodes.get(node), Some(Node::Remainder(..)));
+    if state.stops().any(is_remainder) {
+        tally.count("states with a stop at a remainder");
     }
 }

@@ -1,19 +1,13 @@
 //! Remainders of drawn dividends by drawn divisors, as whole checks and runs.
-//! The target's row is what the peer's analysis writes: that is accepted, and
-//! without either end it is refused. What request 1 tells apart is counted, and
-//! has to be reached often.
+//! What request 1 tells apart is counted, and has to be reached often.
 
-use super::checks::Check;
-use super::runs::Run;
+use super::assigned::Assigned;
 use super::Tally;
 use crate::build::*;
-use peer::analysis::{arithmetic, Ends as Lent, Raised, Row, Silent};
+use peer::analysis::{arithmetic, Row, Silent};
 use peer::generate::Random;
 use peer::interval::Interval;
-use peer::table::{Node, Table};
-use peer::words::ALARM_WORDS;
-use peer::State;
-use rangecheck::STATE_WORDS;
+use peer::table::Node;
 use std::path::Path;
 
 /// How many formulas are drawn, and how often each branch is reached at least.
@@ -48,14 +42,16 @@ const GRID: [i32; 10] = [MIN, MIN + 1, -7, -1, 0, 1, 2, 7, MAX - 1, MAX];
 pub fn run(_bin: &Path, tally: &mut Tally) {
     let mut random = Random::new(20261119);
     for _ in 0..DRAWN {
-        let case = Case::draw(&mut random);
-        let foreseen = case.foreseen(tally);
-        for check in case.checks(&foreseen) {
-            tally.case(check.differences(ALARM_WORDS), || check.shown());
-        }
-        let ends = case.spans.map(|(low, high)| random.pick(&[low, high]));
-        for values in [case.values, ends] {
-            case.run(tally, values, &foreseen);
+        let (case, plain) = draw(&mut random);
+        let (nodes, row) = case.parts();
+        count_branches(tally, &nodes, &row);
+        let foreseen = case.foreseen();
+        case.check(tally, &foreseen);
+        for values in [case.values, case.ends(&mut random)] {
+            let state = case.run(tally, values, &foreseen);
+            if plain {
+                tally.count(branch_of_run(values, state.values[2]));
+            }
         }
     }
     for branch in BRANCHES {
@@ -71,92 +67,16 @@ fn u() -> Tree {
     var(1)
 }
 
-/// One task assigns a tree of V and U to a third variable, and ends.
-struct Case {
-    tree: Tree,
-    /// Whether the tree is V by U and nothing else.
-    plain: bool,
-    /// Of V and U, and a value in each.
-    spans: [Ends; 2],
-    values: [i32; 2],
-}
-
-/// What the check says of an assignment.
-struct Foreseen {
-    written: Option<Interval>,
-    alarms: Vec<[i32; 2]>,
-}
-
-impl Case {
-    fn draw(random: &mut Random) -> Case {
-        let values = match random.below(20) {
-            0 => [MIN, -1],
-            _ => [word(random), word(random)],
-        };
-        let spans = values.map(|value| around(random, value));
-        let plain = random.chance(60);
-        let tree = if plain { remainder(v(), u()) } else { nested(random) };
-        Case { tree, plain, spans, values }
-    }
-
-    fn table(&self, [v, u]: [i32; 2]) -> Vec<i32> {
-        table(&[2], &[v, u, 0], 0, &[assign(2, self.tree.clone(), 1), end()])
-    }
-
-    /// A proposal with that row of the third variable after the assignment.
-    fn proposal(&self, written: Option<Ends>, target: Ends) -> Vec<i32> {
-        let [v, u] = self.spans;
-        let all = [vec![v, u, (0, 0)], vec![v, u, target]];
-        let held = [0, if written.is_some() { 0 } else { -1 }];
-        let entries: Vec<Entry> = written.map(|ends| ([0, 0, 2], ends)).into_iter().collect();
-        proposal(3, &held, &[], &all, &entries)
-    }
-
-    /// By the peer's analysis, whose branches are counted.
-    fn foreseen(&self, tally: &mut Tally) -> Foreseen {
-        let nodes = Table::decode(&self.table(self.values)).expect("a valid table").nodes;
-        let [(v_low, v_high), (u_low, u_high)] = self.spans;
-        let row = Lent { lows: &[v_low, u_low, 0], highs: &[v_high, u_high, 0] }.row();
-        count_branches(tally, &nodes, &row);
-        let mut raised = Raised::default();
-        let written = arithmetic(&nodes, nodes.len() as u16 - 1, &row, &mut raised);
-        Foreseen { written, alarms: raised.pairs().collect() }
-    }
-
-    /// With the row that is written, and with rows that lack an end of it.
-    fn checks(&self, foreseen: &Foreseen) -> Vec<Check> {
-        let ends = foreseen.written.map(|interval| (interval.low(), interval.high()));
-        let check = |target, wanted| {
-            Check::wanting(self.table(self.values), self.proposal(ends, target), wanted)
-        };
-        let exact = check(ends.unwrap_or((0, 0)), Ok(foreseen.alarms.clone()));
-        let less = ends.into_iter().flat_map(narrower).map(|less| check(less, Err((13, 0))));
-        std::iter::once(exact).chain(less).collect()
-    }
-
-    /// Plays the assignment on values in the spans, where the check has foreseen
-    /// whatever comes.
-    fn run(&self, tally: &mut Tally, values: [i32; 2], foreseen: &Foreseen) {
-        let run = Run::by_peer(self.table(values), vec![0]);
-        let state = run.wanted.expect("a valid table");
-        let mut found = run.differences(STATE_WORDS);
-        if !foreseen.holds(&state) {
-            found.push(format!("not foreseen: {state:?}"));
-        }
-        if self.plain {
-            tally.count(branch_of_run(values, state.values[2]));
-        }
-        tally.case(found, || run.shown());
-    }
-}
-
-impl Foreseen {
-    fn holds(&self, state: &State) -> bool {
-        match state.stop_kinds[0] {
-            0 => self.written.is_some_and(|interval| interval.holds(state.values[2])),
-            kind => self.alarms.contains(&[state.stop_nodes[0], kind as i32]),
-        }
-    }
+/// A remainder of V by U and nothing else, or any other tree.
+fn draw(random: &mut Random) -> (Assigned, bool) {
+    let values = match random.below(20) {
+        0 => [MIN, -1],
+        _ => [word(random), word(random)],
+    };
+    let spans = values.map(|value| around(random, value));
+    let plain = random.chance(60);
+    let tree = if plain { remainder(v(), u()) } else { nested(random) };
+    (Assigned { tree, spans, values }, plain)
 }
 
 fn word(random: &mut Random) -> i32 {

@@ -166,6 +166,9 @@ fn operations() -> Vec<Run> {
 fn order_of_evaluation() -> Vec<Run> {
     let digit = || input(0, 9);
     let asked = |otherwise| choice(less(num(1), digit()), digit(), otherwise);
+    // Variable 0 is 0, so that only the branch with the input is evaluated.
+    let by_zero = || quotient(num(1), num(0));
+    let tested = || choice(equal(var(0), num(0)), difference(digit(), num(3)), by_zero());
     let divides = assign(0, sum(remainder(num(9), digit()), digit()), 0);
     let divides = table(&[1, 2], &[3, 0], 0, &[divides, assign(1, num(8), 2), end()]);
     vec![
@@ -182,6 +185,8 @@ fn order_of_evaluation() -> Vec<Run> {
         // Both sides always, of a choice one branch.
         one(asked(digit()), &[0, 5, 6], done(6)),
         one(asked(input(10, 19)), &[0, 1, 12], done(12)),
+        one(tested(), &[0, 5], done(2)),
+        one(choice(not_equal(var(0), num(0)), by_zero(), digit()), &[0, 5], done(5)),
     ]
 }
 

@@ -22,14 +22,16 @@ use std::process::Command;
 
 /// The texts, the lines that the printing program gives, and where each of the
 /// four tasks stops: its node and its kind. Where there is no task, both are 0.
-const TEXTS: [(&str, &str, [(i64, i64); 4]); 3] = [
+const TEXTS: [(&str, &str, [(i64, i64); 4]); 4] = [
     (TOWER, "accepted 2;node 29 overflow;node 40 zero", [(-1, 0), (29, 1), (-1, 0), (40, 2)]),
     (WRONG, "refused 14 write at 19", [(15, 2), (-1, 0), (-1, 0), (-1, 0)]),
     (RING, "accepted 1;node 7 overflow", [(-1, 0), (0, 0), (0, 0), (0, 0)]),
+    (BOARD, "accepted 1;node 11 zero", [(11, 2), (0, 0), (0, 0), (0, 0)]),
 ];
 const TOWER: &str = "tower.txt";
 const WRONG: &str = "wrong.txt";
 const RING: &str = "ring.txt";
+const BOARD: &str = "board.txt";
 
 /// A whole turn.
 const TURN: i32 = 1_000_000_000;
@@ -41,6 +43,7 @@ pub fn run(bin: &Path, tally: &mut Tally) {
     }
     narrowest(tally, TOWER);
     narrowest(tally, RING);
+    narrowest(tally, BOARD);
     locks_and_ways(tally);
     one_rule(tally);
     no_cause(tally);

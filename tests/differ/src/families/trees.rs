@@ -5,6 +5,7 @@
 mod by_hand;
 mod drawn;
 
+use super::choices::{branches, LEAST};
 use super::Tally;
 use crate::build::{flatten, table_of_nodes, Ends, Tree};
 use peer::analysis::{arithmetic, condition, narrow, Ends as Lent, Raised};
@@ -37,16 +38,23 @@ const WITH_NONE: &str = " with a variable that is none";
 pub fn run(bin: &Path, tally: &mut Tally) {
     let mut cases = by_hand::cases();
     cases.extend(drawn::cases(24_000, 20261116));
+    cases.extend(drawn::choices(36_000, 20261121));
     let words = cases.iter().flat_map(Case::words);
     let printed = asked(&bin.join("cases_test"), words.flat_map(i32::to_le_bytes).collect());
     let mut lines = printed.lines();
     for case in &cases {
         tally.count(case.sort());
+        if case.answer.is_none() {
+            case.reached().into_iter().for_each(|name| tally.count(name));
+        }
         let line = lines.next().unwrap_or("nothing");
         tally.case(case.differences(line), || format!("{:?}", case.words()));
     }
     for mode in ["value", "decision", "narrowed no", "narrowed yes"] {
         tally.expect(&format!("{mode}{WITH_NONE}"), 1);
+    }
+    for name in branches::names() {
+        tally.expect(name, LEAST);
     }
     if let Some(line) = lines.next() {
         tally.case(vec![format!("printed once more: {line}")], || "all cases".to_string());
@@ -120,6 +128,12 @@ impl Case {
         wrong.map(|(who, said)| format!("{who}: {said}, not {wanted}")).collect()
     }
 
+    /// What its choices come to, by the peer's analysis.
+    fn reached(&self) -> Vec<&'static str> {
+        let row = Lent { lows: &self.lows(), highs: &self.highs() }.row();
+        branches::reached(&self.decoded(), self.node as u16, &row)
+    }
+
     /// The line that the peer's analysis gives.
     fn by_peer(&self) -> String {
         let (nodes, node) = (self.decoded(), self.node as u16);
@@ -146,7 +160,8 @@ impl Case {
     }
 
     /// The nodes as the peer has them, of a table in which each that is no
-    /// child is a point's, so that each is used once.
+    /// child is a point's, so that each is used once. It has all variables, since
+    /// a formula may read past the row.
     fn decoded(&self) -> Vec<Node> {
         let mut child = vec![false; self.nodes.len()];
         for node in &self.nodes {
@@ -160,8 +175,7 @@ impl Case {
         };
         let tops = (0..child.len()).filter(|&node| !child[node]);
         let points: Vec<[i32; 4]> = tops.map(point).collect();
-        let starts = vec![0; self.row.len()];
-        let words = table_of_nodes(&[points.len() as i32], &starts, 0, &points, &self.nodes);
+        let words = table_of_nodes(&[points.len() as i32], &[0; 16], 0, &points, &self.nodes);
         Table::decode(&words).expect("a valid table").nodes
     }
 }

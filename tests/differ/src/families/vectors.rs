@@ -4,14 +4,18 @@ use super::checks::Check;
 use super::runs::Run;
 use peer::words::parse;
 
-/// The first ones, and those given with request 1.
-const CHECKS: [&str; 2] = [
+/// The first ones, and those given with requests 1 and 2. Line 12 of request 1's
+/// checks, which came with `node 52 overflow` too, has the answer by request 2:
+/// where its `v < v` is true, v isn't MIN, and the branch's quotient fits.
+const CHECKS: [&str; 3] = [
     include_str!("../../../vectors/check.txt"),
     include_str!("../../../vectors/after-request-1/check.txt"),
+    include_str!("../../../vectors/after-request-2/check.txt"),
 ];
-const RUNS: [&str; 2] = [
+const RUNS: [&str; 3] = [
     include_str!("../../../vectors/run.txt"),
     include_str!("../../../vectors/after-request-1/run.txt"),
+    include_str!("../../../vectors/after-request-2/run.txt"),
 ];
 
 pub fn checks() -> Vec<Check> {
@@ -24,7 +28,7 @@ pub fn runs() -> Vec<Run> {
 
 type Parts = (Vec<i32>, Vec<i32>, &'static str);
 
-fn parts(texts: [&'static str; 2]) -> impl Iterator<Item = Parts> {
+fn parts(texts: [&'static str; 3]) -> impl Iterator<Item = Parts> {
     texts.into_iter().flat_map(str::lines).map(|line| {
         let parts: Vec<&str> = line.split('|').map(str::trim).collect();
         let [first, second, answer] = parts[..] else { panic!("three parts: {line}") };

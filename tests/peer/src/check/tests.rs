@@ -2,7 +2,7 @@
 //! against a slow one that goes rule by rule as the document's table does.
 
 use super::*;
-use crate::analysis::Silent;
+use crate::analysis::{narrow, Silent};
 use crate::generate::{case, Random};
 use crate::words::parse;
 
@@ -77,6 +77,30 @@ fn point_2_divides_10_by_0_to_5() {
     let given = divides("2..10");
     assert_eq!(refused(DIVIDES, &with(&given, 4 + 4 + 6 + 7, 3)), (13, 2));
     assert_eq!(refused(DIVIDES, &with(&given, 4 + 4 + 6 + 10 + 7, 9)), (13, 2));
+}
+
+/// v = 0 ? 0 : 10 / v, assigned to v.
+const GUARDED: &str = "1 1 0 2 8  2  0  1 0 7 1  0 0 0 0
+    2 0 0 0  0 0 0 0  18 0 1 0  0 0 0 0  0 10 0 0  2 0 0 0  7 4 5 0  8 2 3 6";
+
+#[test]
+fn a_choice_that_tests_its_own_divisor() {
+    let given = |low: i32| format!("2 1 0 1  0 0  0 0 0  {low} -10 -10  5 10 10");
+    assert_eq!(accepted(GUARDED, "2 1 0 1  0 0  0 0 0  0 0 0  5 10 10"), []);
+    assert_eq!(accepted(GUARDED, &given(0)), []);
+    assert_eq!(accepted(GUARDED, &given(-1)), [6, 2]);
+    // v below 5 is 0..4, else 0.
+    let low_part = "2 0 0 0  0 5 0 0  16 0 1 0  2 0 0 0  0 0 0 0  8 2 3 4";
+    let assigned = format!("1 1 0 2 6  2  0  1 0 5 1  0 0 0 0  {low_part}");
+    let given = |row, entry| format!("2 1 0 1  0 0  0 0 0  0 0 0  9 {row} {entry}");
+    assert_eq!(accepted(&assigned, &given(4, 4)), []);
+    assert_eq!(refused(&assigned, &given(3, 4)), (13, 0));
+    assert_eq!(refused(&assigned, &given(4, 3)), (14, 0));
+    // It is always below 5, so that a test of that has one way on.
+    let tested =
+        format!("1 1 0 3 8  3  0  2 7 1 2  0 0 0 0  0 0 0 0  {low_part}  0 5 0 0  16 5 6 0");
+    assert_eq!(accepted(&tested, "3 1 0 0  0 0 -1  0 0 0  9 9 0"), []);
+    assert_eq!(refused(&tested, "3 1 0 0  0 -1 0  0 0 0  9 9 0"), (12, 0));
 }
 
 #[test]

@@ -1,6 +1,7 @@
--- `analysis::narrow::carry_both` meets its contract: the flag of the first call decides whether the second is made, on the row that the first left.
+-- `analysis::narrow::carry_both` meets its contract: the answer of the first call decides whether the second is made, on the row that the first left.
 -- Assumes nothing.
 use borrow.Author.Needs.{needs}
+use borrow.Author.Tests.{not-true, not-false}
 use Rattle.analysis.specs.Analysis.{carryBothOf}
 use Rattle.analysis.proofs.NarrowCodeLaws.{then-none, then-some}
 use Rattle.analysis.proofs.narrow.carry_both.Statement.{statement}
@@ -12,7 +13,6 @@ carry-both-spec =
     tie.close
     (tie.spec
     (λ c κs. search needs)
+    (λ c. then-none _ _ _ _ _ (c .before .carry .ensures) (not-true _ (c .if1 .taken)))
     (λ c κs. search needs)
-    (λ c. let tested = c .before in then-none _ _ (tested .before .before .carry .ensures) (tested .if1 .taken) (c .no-row .ensures))
-    (λ c κs. search needs)
-    (λ c. let tested = c .before .before in then-some _ _ (tested .before .before .carry .ensures) (tested .if1 .left) (c .carry2 .ensures)))
+    (λ c. let tested = c .before .before in then-some _ _ _ _ _ _ (tested .before .carry .ensures) (not-false _ (tested .if1 .left)) (c .carry2 .ensures)))

@@ -1,5 +1,6 @@
 -- `analysis::rows::meet_at` meets its contract: the three calls give the three parts of the definition.
 -- Assumes nothing.
+use mathlib.Core.Path.{_∙_}
 use borrow.Author.Needs.{needs}
 use Rattle.analysis.specs.Rows.{meetAtOf}
 use Rattle.analysis.proofs.rows.meet_at.Statement.{statement}
@@ -13,4 +14,4 @@ meet-at-spec =
     (λ c κs. search needs)
     (λ c κs. search needs)
     (λ c κs. search needs)
-    (λ c. rw (c .put .ensures, c .before .meet .ensures, c .before .before .range .ensures)))
+    (λ c. c .put .ensures ∙ rw (c .before .meet .ensures, c .before .before .before .range-in .ensures)))

@@ -12,9 +12,11 @@ unfolding alarmsBy
 nothing c =
     let told = c .before in
     let walk = told .before .before .before .before in
-    let nodes = walk .before .before .before .pre .1 .1 .0 in (
-      assign-none _ _ _ _ _ _ _ _ nodes (walk .value .ensures .0) (told .enum-told .given .1) (c .no-outcome .ensures),
-      rw nodes at (walk .value .ensures .1),
+    let own = walk .before .before .before in
+    let nodes = own .before .before .pre .1 .1 .0 in
+    let valued = rw (own .own .ensures) at (walk .value .ensures) in (
+      assign-none _ _ _ _ _ _ _ _ nodes (valued .0) (told .enum-told .given .1) (c .no-outcome .ensures),
+      rw nodes at (valued .1),
     )
 
 written : tie.Need-returns-2
@@ -28,19 +30,22 @@ written c =
     let told = held .before in
     let matched = told .before in
     let walk = matched .before .before .before .before in
-    let nodes = walk .before .before .before .pre .1 .1 .0 in
+    let own = walk .before .before .before in
+    let nodes = own .before .before .pre .1 .1 .0 in
+    let valued = rw (own .own .ensures) at (walk .value .ensures) in
     let low = read-back {z = matched .x .given .0 .0} (told .known-told .given .0 .1) in
     let high = read-back {z = matched .x .given .0 .1 .0} (told .known-told .given .1 .0 .1) in (
-      assign-some _ _ _ _ _ _ _ _ nodes (walk .value .ensures .0) (matched .x .given .1) low high (held .held .ensures .0)
+      assign-some _ _ _ _ _ _ _ _ nodes (valued .0) (matched .x .given .1) low high (held .held .ensures .0)
           (record { variables = flow .before .number-at .ensures .0; low = lows .row-lows .ensures; high = highs .row-highs .ensures })
           (flow .written-within .ensures) (task .task-of .ensures) (c .is-filed .ensures),
-      rw nodes at (walk .value .ensures .1),
+      rw nodes at (valued .1),
     )
 
 pub assign-fits-spec : {M : Type 1} → statement M
 assign-fits-spec =
     tie.close
     (tie.spec
+    (λ c κs. search needs)
     (λ c κs. search needs)
     (λ c. search needs)
     (λ c. search needs)
@@ -53,6 +58,6 @@ assign-fits-spec =
     (λ c κs. search needs)
     (λ c κs. search needs)
     (λ c κs. search needs)
-    (λ c κs. search needs)
+    (λ c κs. c .before .before .before .before .before .before .before .before .before .before .before .before .before .before .before .before .pre .0)
     (λ c. search needs)
     written)

@@ -7,8 +7,7 @@ use borrow.Author.Needs.{needs}
 use denote.Ref.{now}
 use Rattle.table.specs.Passes.{FormedPoint}
 use Rattle.table.specs.declared.Point.{Point}
-use Rattle.analysis.specs.declared.Row.{Row}
-use Rattle.analysis.specs.Rows.{rowOf}
+use Rattle.analysis.specs.Rows.{Row, rowOf}
 use Rattle.analysis.specs.Alarms.{markedOf}
 use Rattle.rules.specs.declared.Fits.{Fits}
 use Rattle.rules.specs.Alarms.{alarmsBy}

@@ -1,4 +1,4 @@
--- `rules::point::side` meets its contract: the flag decides whether there is an outcome, and its row and held word are tested. Assumes nothing.
+-- `rules::point::side` meets its contract: the answer decides whether there is an outcome, and its row and held word are tested. Assumes nothing.
 use borrow.Author.Needs.{needs}
 use Rattle.rules.proofs.PointLaws.{side-none, side-some}
 use Rattle.rules.proofs.point.side.Statement.{statement}
@@ -8,17 +8,22 @@ some-left : tie.Need-returns-2
 some-left c =
     let highs = c .before .before in
     let lows = highs .before in
-    let held = lows .before .before .before .before .before .before in
-    side-some _ _ _ _ _ (held .before .before .if1 .left) (held .held .ensures .0)
+    let own-highs = lows .before in
+    let own-lows = own-highs .before .before in
+    let held = own-lows .before .before in
+    let within = rw (own-lows .low-ends .ensures, own-highs .high-ends .ensures) at (c .row-within .ensures) in
+    side-some _ _ _ _ _ _ (held .before .if1 .left) (held .held .ensures .0)
     (record { variables = c .before .number-at .ensures .0; low = lows .row-lows .ensures; high = highs .row-highs .ensures })
-    (c .row-within .ensures)
+    within
 
 pub side-spec : {M : Type 1} → statement M
 side-spec =
     tie.close
     (tie.spec
     (λ c κs. search needs)
-    (λ c. side-none _ _ _ _ _ (c .before .if1 .taken) (c .no-outcome .ensures))
+    (λ c. side-none _ _ _ _ _ _ (c .before .if1 .taken) (c .no-outcome .ensures))
+    (λ c κs. search needs)
+    (λ c κs. search needs)
     (λ c κs. search needs)
     (λ c κs. search needs)
     (λ c κs. search needs)

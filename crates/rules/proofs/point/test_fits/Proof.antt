@@ -1,4 +1,4 @@
--- `rules::point::test_fits` meets its contract: the walk of the condition gives the marks, and each narrowing the outcome of its side.
+-- `rules::point::test_fits` meets its contract: one walk of the condition gives the marks and both rows, and each row the outcome of its side.
 -- Assumes nothing.
 use borrow.Author.Needs.{needs}
 use Rattle.rules.specs.Alarms.{alarmsBy}
@@ -11,12 +11,12 @@ unfolding alarmsBy
 returns c =
     let other = c .before .before .before .before in
     let taken = other .before .before in
-    let own = taken .before .before in
-    let walk = own .before .before .before in
-    let nodes = walk .before .before .before .pre .1 .0 in (
-      test-fits _ _ _ _ _ _ _ _ nodes (own .own .ensures) (taken .before .narrow .ensures) (taken .side .ensures) (other .before .narrow2 .ensures)
-          (other .side2 .ensures),
-      rw nodes at (walk .decision .ensures .1),
+    let said = taken .before .before .before .before in
+    let own = said .before .before .before .before .before in
+    let nodes = own .before .before .pre .1 .0 in
+    let left = said .sides .ensures .1 in (
+      test-fits _ _ _ _ _ _ _ _ nodes (own .own .ensures) (said .sides .ensures .0) (left .0) (left .1 .0) (taken .side .ensures) (other .side2 .ensures),
+      rw (nodes, own .own .ensures) at (left .1 .1),
     )
 
 pub test-fits-spec : {M : Type 1} → statement M
@@ -25,9 +25,7 @@ test-fits-spec =
     (tie.spec
     (λ c κs. search needs)
     (λ c κs. search needs)
-    (λ c κs. search needs)
-    (λ c κs. search needs)
-    (λ c κs. search needs)
-    (λ c κs. let pre = c .before .before .before .before .before .before .before .before .before .pre in (pre .0, pre .1 .1 .1))
+    (λ c κs. let pre = c .before .before .before .before .before .before .before .before .before .before .pre in (pre .0, pre .1 .1 .0))
+    (λ c κs. let pre = c .before .before .before .before .before .before .before .before .before .before .before .before .pre in (pre .0, pre .1 .1 .1))
     (λ c. search needs)
     returns)

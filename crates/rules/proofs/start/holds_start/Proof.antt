@@ -13,8 +13,7 @@ use Rattle.words.proofs.FirstLaws.{Checked, check, checks, checked, fails-at}
 use Rattle.interval.specs.Lattice.{withinOf}
 use Rattle.interval.specs.declared.Interval.the-variants.{Between}
 use Rattle.interval.proofs.MachineArithmetic.{handed32}
-use Rattle.analysis.specs.declared.Row.{Row}
-use Rattle.analysis.specs.Rows.{rowOf, rangeOf}
+use Rattle.analysis.specs.Rows.{Row, rowOf, rangeOf}
 use Rattle.rules.specs.Rules.{holdsStart}
 use Rattle.rules.proofs.start.holds_start.Statement.{statement}
 use Rattle.rules.proofs.start.holds_start.Tie as tie

@@ -1,5 +1,6 @@
 //! Document 01's examples, the errors that it lists, and its sentences on
-//! outcomes and alarms; those of request 1 on remainders.
+//! outcomes and alarms; those of request 1 on remainders and of request 2 on
+//! choices.
 
 use super::Check;
 use crate::build::*;
@@ -12,11 +13,20 @@ pub fn cases() -> Vec<Check> {
     no_outcome(&mut cases);
     remainders(&mut cases);
     remainders_of_none(&mut cases);
+    choices(&mut cases);
+    choices_of_none(&mut cases);
+    choices_in_tests(&mut cases);
+    rows_by_choices_in_tests(&mut cases);
     cases
 }
 
 fn v() -> Tree {
     var(0)
+}
+
+/// v = 0 ? 0 : 10 / v
+fn guarded() -> Tree {
+    choice(equal(v(), num(0)), num(0), quotient(num(10), v()))
 }
 
 pub fn bare() -> Vec<i32> {
@@ -57,12 +67,11 @@ fn examples(cases: &mut Vec<Check>) {
         cases.push(Check::new(&*divides, given, answer));
     }
 
-    // v = 0 ? 0 : 10 / v lists zero.
-    let guarded = choice(equal(v(), num(0)), num(0), quotient(num(10), v()));
-    let guarded = table(&[2], &[0], 0, &[assign(0, guarded, 1), end()]);
+    // v = 0 ? 0 : 10 / v lists nothing since request 2.
+    let guarded = table(&[2], &[0], 0, &[assign(0, guarded(), 1), end()]);
     let rows = [vec![(0, 5)], vec![(0, 10)]];
     let given = proposal(1, &[0, 0], &[], &rows, &[([0, 0, 0], (0, 10))]);
-    cases.push(Check::new(guarded, given, "accepted 1;node 6 zero"));
+    cases.push(Check::new(guarded, given, "accepted 0"));
 
     // Lock 0, lock 1, unlock 0, write: held set 2 at the write.
     let nested = [lock(0, 1), lock(1, 2), unlock(0, 3), assign(0, num(5), 4), end()];
@@ -213,8 +222,6 @@ fn no_outcome(cases: &mut Vec<Check>) {
     }
 }
 
-/// What is written, and no less: a target's row or an entry that lacks an end
-/// is refused.
 fn remainders(cases: &mut Vec<Check>) {
     let trees = [
         (remainder(num(5), num(3)), (0, 0), (0, 2), "accepted 0"),
@@ -233,6 +240,16 @@ fn remainders(cases: &mut Vec<Check>) {
             "accepted 2;node 3 zero;node 4 overflow",
         ),
     ];
+    exactly(cases, trees);
+}
+
+/// A tree of V, which is assigned to another variable; the span of V, what is
+/// written, and the answer to just that.
+type Written = (Tree, Ends, Ends, &'static str);
+
+/// What is written, and no less: a target's row or an entry that lacks an end
+/// is refused.
+fn exactly(cases: &mut Vec<Check>, trees: impl IntoIterator<Item = Written>) {
     for (tree, span, written, accepted) in trees {
         let table = table(&[2], &[span.0, 0], 0, &[assign(1, tree, 1), end()]);
         let check = |target: Ends, entry: Ends, answer: &str| {
@@ -277,5 +294,110 @@ fn remainders_of_none(cases: &mut Vec<Check>) {
         ((0, 0), [0, -1, -1], "accepted 1;node 2 zero"),
     ] {
         cases.push(Check::new(&*tests, proposal(1, &held, &[], &rows(3, &[row]), &[]), answer));
+    }
+}
+
+/// V where it is below 5, else 0: 0..4 where V is 0..9.
+fn low_part() -> Tree {
+    choice(less(v(), num(5)), v(), num(0))
+}
+
+/// Above 0, and ten by it below 20: only the decision divides by 0.
+fn small_share() -> Tree {
+    both(not_equal(v(), num(0)), less(quotient(num(10), v()), num(20)))
+}
+
+/// What is written is narrower than by branches on the whole row, and a target's
+/// row or an entry may be so too.
+fn choices(cases: &mut Vec<Check>) {
+    let ten_by_v = || quotient(num(10), v());
+    let one_by = |tree| quotient(num(1), tree);
+    let nowhere = both(less(v(), num(3)), less(num(5), v()));
+    let everywhere = either(less(v(), num(6)), less(num(3), v()));
+    let trees = [
+        (guarded(), (0, 5), (0, 10), "accepted 0"),
+        (guarded(), (-5, 5), (-10, 10), "accepted 1;node 6 zero"),
+        (low_part(), (0, 9), (0, 4), "accepted 0"),
+        (choice(less(v(), num(5)), num(9), v()), (0, 9), (5, 9), "accepted 0"),
+        (choice(less(v(), num(MAX)), sum(v(), num(1)), v()), FULL, (-MAX, MAX), "accepted 0"),
+        (choice(equal(v(), num(MIN)), num(1), negation(v())), FULL, (-MAX, MAX), "accepted 0"),
+        (choice(small_share(), ten_by_v(), num(0)), (0, 5), (0, 10), "accepted 1;node 5 zero"),
+        // No row is left for the branch, though its condition allows it.
+        (choice(nowhere, one_by(num(0)), v()), (0, 9), (0, 9), "accepted 0"),
+        (choice(everywhere, v(), one_by(num(0))), (0, 9), (0, 9), "accepted 0"),
+        (choice(less(v(), v()), num(7), num(0)), (0, 1), (0, 0), "accepted 0"),
+        // Decided by what a choice in the condition is.
+        (choice(less(low_part(), num(5)), num(1), num(2)), (0, 9), (1, 1), "accepted 0"),
+        (
+            choice(less(v(), num(5)), one_by(v()), one_by(difference(v(), num(7)))),
+            (0, 9),
+            (-1, 1),
+            "accepted 2;node 5 zero;node 10 zero",
+        ),
+    ];
+    exactly(cases, trees);
+}
+
+/// Where no branch is left, nothing is written.
+fn choices_of_none(cases: &mut Vec<Check>) {
+    let nowhere = || both(less(v(), num(3)), less(num(5), v()));
+    let none = || quotient(num(1), num(0));
+    let low = || less(v(), num(5));
+    for (tree, answer) in [
+        (choice(nowhere(), num(7), none()), "accepted 1;node 10 zero"),
+        (choice(not(nowhere()), none(), num(7)), "accepted 1;node 10 zero"),
+        (choice(less(none(), v()), num(7), v()), "accepted 1;node 2 zero"),
+        // Either leaves a row, but has no decision.
+        (choice(either(less(none(), v()), low()), num(7), v()), "accepted 1;node 2 zero"),
+        (choice(both(less(none(), v()), low()), num(7), v()), "accepted 1;node 2 zero"),
+    ] {
+        let table = table(&[2], &[0], 0, &[assign(0, tree, 1), end()]);
+        let given = proposal(1, &[0, -1], &[], &rows(2, &[(0, 9)]), &[]);
+        cases.push(Check::new(table, given, answer));
+    }
+}
+
+/// A test whose condition holds a choice: the ways on that it has, and alarms.
+fn choices_in_tests(cases: &mut Vec<Check>) {
+    let always = || less(low_part(), num(5));
+    for (condition, span, held, answer) in [
+        (always(), (0, 9), [0, 0, -1], "accepted 0"),
+        (always(), (0, 9), [0, -1, -1], "refused 12 locks at 0"),
+        (not(always()), (0, 9), [0, -1, 0], "accepted 0"),
+        (less(low_part(), num(4)), (0, 9), [0, 0, -1], "refused 12 locks at 0"),
+        (less(low_part(), num(4)), (0, 9), [0, 0, 0], "accepted 0"),
+        (less(guarded(), num(5)), (0, 5), [0, 0, 0], "accepted 0"),
+        (less(guarded(), num(5)), (-1, 5), [0, 0, 0], "accepted 1;node 6 zero"),
+        (less(guarded(), num(11)), (0, 5), [0, 0, -1], "accepted 0"),
+    ] {
+        let table = table(&[3], &[0], 0, &[test(condition, 1, 2), end(), end()]);
+        let given = proposal(1, &held, &[], &rows(3, &[span]), &[]);
+        cases.push(Check::new(table, given, answer));
+    }
+}
+
+/// What a test leaves of a second variable by a choice of V, and of V by both.
+fn rows_by_choices_in_tests(cases: &mut Vec<Check>) {
+    let tests = test(at_most(var(1), low_part()), 1, 2);
+    let tests = table(&[3], &[0, 0], 0, &[tests, end(), end()]);
+    for (yes, no, answer) in [
+        ((0, 4), (1, 20), "accepted 0"),
+        ((0, 3), (1, 20), "refused 13 flow at 0"),
+        ((1, 4), (1, 20), "refused 13 flow at 0"),
+        ((0, 4), (2, 20), "refused 13 flow at 0"),
+        ((0, 4), (1, 19), "refused 13 flow at 0"),
+    ] {
+        let all = [(0, 20), yes, no].map(|ends| vec![(0, 9), ends]);
+        cases.push(Check::new(&*tests, proposal(2, &[0; 3], &[], &all, &[]), answer));
+    }
+    let tests = table(&[3], &[0], 0, &[test(small_share(), 1, 2), end(), end()]);
+    for (yes, no, answer) in [
+        ((1, 5), (0, 0), "accepted 1;node 5 zero"),
+        ((2, 5), (0, 0), "refused 13 flow at 0"),
+        ((1, 4), (0, 0), "refused 13 flow at 0"),
+        ((1, 5), (1, 1), "refused 13 flow at 0"),
+    ] {
+        let all = [(0, 5), yes, no].map(|ends| vec![ends]);
+        cases.push(Check::new(&*tests, proposal(1, &[0; 3], &[], &all, &[]), answer));
     }
 }

@@ -1,7 +1,9 @@
 //! Trees on rows whose answers are written out: the document's own examples,
-//! request 1's sentences on remainders, one variable on both sides, none in
-//! every place, two levels of both, either and not, a choice under a condition
-//! under a choice, the longest chains.
+//! request 1's sentences on remainders, request 2's on choices, one variable on
+//! both sides, none in every place, two levels of both, either and not, a choice
+//! under a condition under a choice, the longest chains.
+
+mod choices;
 
 use super::{Case, Mode};
 use crate::build::{
@@ -29,6 +31,7 @@ pub fn cases() -> Vec<Case> {
     two_levels(&mut list);
     choice_under_a_condition(&mut list);
     longest_chains(&mut list);
+    choices::cases(&mut list);
     list.0
 }
 
@@ -71,7 +74,7 @@ fn examples(list: &mut List) {
     let guarded = choice(equal(v(), num(0)), num(0), ten_by_v());
     let most = "2147483647";
     list.value(&ten_by_v(), &[(0, 5)], "2 10 alarm 2 2");
-    list.value(&guarded, &[(0, 5)], "0 10 alarm 6 2");
+    list.value(&guarded, &[(0, 5)], "0 10");
     list.narrowed(&less(v(), v()), &[(0, 9)], true, "1 8");
     list.value(&negation(v()), &[(MIN, 0)], &format!("0 {most} alarm 1 1"));
     list.value(&product(input(1, 2), v()), &[(MAX, MAX)], &format!("{most} {most} alarm 2 1"));

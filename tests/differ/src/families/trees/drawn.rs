@@ -3,6 +3,7 @@
 
 use super::{operands, Case, Mode, Sort};
 use crate::build::{Ends, MAX, MIN};
+use crate::families::choices::drawn;
 use peer::generate::Random;
 
 /// All inner kinds, those that rarely fit more often.
@@ -12,10 +13,26 @@ const ANY: [i32; 23] =
 /// Conditions on leaves alone.
 const PLAIN: [i32; 9] = [16, 17, 18, 19, 20, 20, 21, 21, 22];
 
+const MODES: [Mode; 4] = [Mode::Value, Mode::Decision, Mode::Narrowed(false), Mode::Narrowed(true)];
+
 pub fn cases(count: usize, seed: u64) -> Vec<Case> {
     let mut random = Random::new(seed);
-    let modes = [Mode::Value, Mode::Decision, Mode::Narrowed(false), Mode::Narrowed(true)];
-    modes.into_iter().cycle().take(count).map(|mode| case(&mut random, mode)).collect()
+    MODES.into_iter().cycle().take(count).map(|mode| case(&mut random, mode)).collect()
+}
+
+/// Choices whose branches read what their conditions test, and conditions with
+/// such choices in them.
+pub fn choices(count: usize, seed: u64) -> Vec<Case> {
+    let mut random = Random::new(seed);
+    let case = |mode| {
+        let row: Vec<Ends> = (0..2).map(|_| span(&mut random, true)).collect();
+        let tree = match mode {
+            Mode::Value => drawn::choice_of(&mut random, 2, 3),
+            _ => drawn::condition_of(&mut random, 2, 3),
+        };
+        Case::of(mode, &tree, &row, None)
+    };
+    MODES.into_iter().cycle().take(count).map(case).collect()
 }
 
 fn case(random: &mut Random, mode: Mode) -> Case {
