@@ -64,7 +64,7 @@ const FORMS: [Form; 7] = [
 /// The form whose time doubles with each level, of so many.
 const DOUBLING: Form =
     Form { name: "(v < 20 and .. < 5) ? 1 : 9", assigned: true, level: in_cut_right_side };
-const LEVELS: [usize; 3] = [4, 8, 12];
+const LEVELS: [usize; 4] = [4, 8, 12, 16];
 
 fn in_condition(nodes: &mut Nodes, _: i32) {
     let inner = nodes.last();
@@ -171,5 +171,5 @@ impl Form {
 
 pub fn checks() -> Vec<Check> {
     let linear = FORMS.iter().flat_map(|form| SIZES.map(|most| form.check(most)));
-    linear.chain(LEVELS.map(|levels| DOUBLING.check(1 + 8 * levels))).collect()
+    linear.chain(LEVELS.map(|levels| DOUBLING.check(1 + 9 * levels))).collect()
 }
