@@ -1,5 +1,5 @@
 -- What the analysis says of a tree on a row: the interval of arithmetic, the decision and the narrowing of a condition, and the alarms of both
--- (document 01, 'Intervals'). A choice reads each branch on the row that `branchOf` gives it.
+-- (document 01, 'Intervals', and document 02, request 2).
 -- Assumes nothing.
 use mathlib.Core.Bool.{Bool, true, false}
 use mathlib.Core.List.{List, [], _++_}
@@ -18,8 +18,8 @@ use Rattle.analysis.specs.declared.Alarm.{Alarm}
 use Rattle.analysis.specs.Rows.{Row, rangeOf, Maybe, none, some, rowIf, thenRow, meetAtOf, joinRowsOf}
 use Rattle.analysis.specs.Alarms.{toldOf}
 
--- ---- the branches of a choice
--- the row on which the branch that is taken where the condition is w is read, s being the row narrowed by w: none if the decision doesn't allow w
+-- ---- the branches of a choice: 'the then branch's row is now always first narrowed by the condition, the else branch's by its opposite'
+-- the row of the branch for w, s being the row narrowed so: 'a branch is taken if the condition allows it as before and its narrowing isn't none'
 abbrev pub branchOf : Decision → Bool → Maybe → Maybe
 branchOf d w s = rowIf (allows d w) s
 
@@ -58,14 +58,15 @@ unfoldable mutual
   valueOf (variable n v) r = rangeOf r v
   valueOf (negation n x) r = negateOf (valueOf x r) .range
   valueOf (binary n op x y) r = operateOf op (valueOf x r) (valueOf y r) .range
-  -- 'join of the branches its condition allows', the then branch on the row narrowed by the condition, the else branch on that narrowed by its opposite
+  -- 'join of the branches its condition allows', each on its own row
   valueOf (choice n c x y) r =
       joinOf
       (rangeOn (branchOf (decisionOf c r) true (narrowOf c true r)) (λ s. valueOf x s))
       (rangeOn (branchOf (decisionOf c r) false (narrowOf c false r)) (λ s. valueOf y s))
   valueOf (noArith n) r = Between (pos 0) (pos 0)
 
-  -- 'alarms of both operands always count'; of a choice 'alarms of the condition and of every branch it allows, no others'
+  -- 'alarms of both operands always count'; of a choice 'alarms of the condition', on the row that came in, and of every branch that is taken, on its own,
+  -- 'no others'
   pub alarmsOf : Arith → Row → List Alarm
   alarmsOf (constant n z) r = []
   alarmsOf (input n a b) r = []

@@ -28,7 +28,7 @@ rowOf lows highs = record { lows = lows; highs = highs }
 abbrev pub rangeOf : Row → ℕ → Interval
 rangeOf r v = fromTo (wordOf (r .lows) v) (wordOf (r .highs) v)
 
--- the same words in sixteen slots, for a row that is to be changed
+-- the same words in sixteen slots: the row on which a point's formulas are read
 unfoldable pub slotsOf : List ℤ → List ℤ
 slotsOf ws = tabulate (λ i. wordOf ws i) 16
 
