@@ -6,6 +6,7 @@ use Rattle.analysis.specs.Laws.{Laws}
 use Rattle.analysis.proofs.RowLaws.{tighter-within}
 use Rattle.analysis.proofs.AlarmLaws.{marked-lists}
 use Rattle.analysis.proofs.NodeLaws.{Outcome, CondOutcome}
+use Rattle.analysis.proofs.AgreeLaws.{value-agrees, alarms-agree, decision-agrees, condAlarms-agree}
 use Rattle.analysis.proofs.AnalysisLaws.{arith-outcome, cond-outcome, alarms-kinds, condAlarms-kinds, narrow-tighter}
 
 pub proved : Laws
@@ -19,4 +20,7 @@ proved = record {
   alarms-kinds = alarms-kinds;
   condAlarms-kinds = condAlarms-kinds;
   marked-lists = marked-lists;
+  value-agrees = λ x r s p q a. (value-agrees r s p q x a, alarms-agree r s p q x a);
+  decision-agrees = λ c r s p q a. (decision-agrees r s p q c a, condAlarms-agree r s p q c a);
+  decision-agrees-none-empty = λ c r s p q e f a. (decision-agrees r s p q c a, condAlarms-agree r s p q c a);
 }

@@ -7,3 +7,4 @@ pub mod Laws
 pub mod RowCodeLaws
 pub mod WalkLaws
 pub mod NarrowCodeLaws
+pub mod AgreeLaws

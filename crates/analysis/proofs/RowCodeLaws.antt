@@ -1,24 +1,26 @@
 -- What the code of rows needs of their definitions.
 -- Assumes nothing.
-use Prim.Native.Nat.{ℕ, zero, suc, _+_, _-_, _<_, _≤_}
+use Prim.Native.Nat.{ℕ, zero, suc, _+_, _-_, _<_, _≤_, zero-le}
 use mathlib.Core.Path.{_≡_, refl, sym, ap, subst, _∙_}
 use mathlib.Core.Bool.{Bool, true, false}
-use mathlib.Core.List.{List, [], _∷_, _++_}
+use mathlib.Core.List.{List, [], _∷_, _++_, append-assoc}
+use native.Mathlib.Nat.{le-antisymm, zero-add}
+use native.Mathlib.Numerals.{add-one}
 use native.Mathlib.Omega.{arith}
 use borrow.Author.Tests.{lt-ltb, le-ltb}
 use lib.IntN.{ℤ, pos}
-use lib.ListN.{length, set, take, drop, length-take}
-use lib.Seq.{getD-append-add, getD-drop, take-set-le, take-set-lt, drop-set-add, drop-set-lt, set-out, ext-getD}
+use lib.ListN.{length, set, take, drop, replicate, length-take, length-append, length-drop, List·getD-eq-default}
+use lib.Seq.{paste, paste-zero, paste-suc, length-paste, take-length, take-at, drop-at, getD-take, length-take-le, getD-append-add, getD-drop, take-set-le, take-set-lt, drop-set-add, drop-set-lt, set-out, ext-getD}
 use Rattle.interval.specs.Integer.{minZ, maxZ, eqZ}
 use Rattle.interval.proofs.IntegerLaws.{eqZ-yes}
 use Rattle.words.specs.Words.{wordOf, partOf}
 use Rattle.words.specs.Tabulate.{tabulate}
 use Rattle.words.specs.First.{allBelow}
-use Rattle.words.proofs.FillLaws.{Filled, tabulate-front, length-tabulate}
+use Rattle.words.proofs.FillLaws.{Filled, tabulate-front, length-tabulate, getD-tabulate}
 use Rattle.words.proofs.FirstLaws.{allBelow-each}
 use Rattle.words.proofs.PartLaws.{part-word, part-length}
 use Rattle.analysis.specs.Rows.{Row, rowOf, slotsOf, ownOf, Maybe, none, some, maybeBy, joinRowsOf, each, eachRest}
-use Rattle.analysis.specs.Arrays.{rowIn, endOf, outerOf, isSome, leftOf}
+use Rattle.analysis.specs.Arrays.{rowIn, outerOf, isSome, leftOf}
 
 same-row : {l m h k : List ℤ} → l ≡ m → h ≡ k → rowOf l h ≡ rowOf m k
 same-row e f = rw (e, f) refl
@@ -54,15 +56,6 @@ tabulate-same f g zero h = refl
 tabulate-same f g (suc n) h = rw (tabulate-same f g n (λ i l. h i (omega arith)), h n (omega arith)) refl
 
 -- ---- a row in an array
-module _ (r : Row) (i : ℕ) where
-  pub end-low : i < 16 → wordOf (r .lows) i ≡ endOf r i
-  unfolding endOf
-  end-low h = rw (lt-ltb i 16 h)
-
-  pub end-high : 16 ≤ i → wordOf (r .highs) (i - 16) ≡ endOf r i
-  unfolding endOf
-  end-high h = rw (le-ltb i 16 h)
-
 module _ (i : ℕ) (x y : ℤ) where
   pub outer-low : i < 16 → minZ x y ≡ outerOf i x y
   unfolding outerOf
@@ -72,9 +65,103 @@ module _ (i : ℕ) (x y : ℤ) where
   unfolding outerOf
   outer-high h = rw (le-ltb i 16 h)
 
-pub own-in : (r : Row) → rowIn (tabulate (endOf r) 32) ≡ ownOf r
-unfolding tabulate endOf slotsOf
-own-in r = refl
+-- ---- a loop that copies the words ws into an array d, from the place at on
+pub record Pasted (d : List ℤ) (at : ℕ) (ws : List ℤ) (k : ℕ) (l : List ℤ) : Type 0 where
+  pub within : k ≤ length ws
+  pub is : l ≡ paste d at ws k
+
+pub paste-none : (d : List ℤ) (at : ℕ) (ws : List ℤ) → Pasted d at ws 0 d
+paste-none d at ws = record { within = zero-le; is = paste-zero d at ws }
+
+pub paste-next : {d : List ℤ} {at : ℕ} {ws : List ℤ} {k : ℕ} {l : List ℤ} {v : ℤ} → Pasted d at ws k l → at + k < length d → k < length ws → v ≡ wordOf ws k → Pasted d at ws (k + 1) (set l (at + k) v)
+paste-next {d} {at} {ws} {k} {l} {v} s h j e = record { within = omega arith; is = rw (s .is, e, add-one) (paste-suc d at ws k (pos 0) h j) }
+
+pub pasted-length : {d : List ℤ} {at : ℕ} {ws : List ℤ} {k : ℕ} {l : List ℤ} → Pasted d at ws k l → at + length ws ≤ length d → length l ≡ length d
+pasted-length {d} {at} {ws} {k} s h = ap length (s .is) ∙ length-paste d at ws k (omega (arith, s .within)) (s .within)
+
+pub pasted-all : {d : List ℤ} {at : ℕ} {ws : List ℤ} {k : ℕ} {l : List ℤ} → Pasted d at ws k l → length ws ≤ k → l ≡ paste d at ws (length ws)
+pasted-all {d} {at} {ws} {k} {l} s h = subst (λ (j : ℕ). l ≡ paste d at ws j) (le-antisymm (s .within) h) (s .is)
+
+-- ---- a row of its own, in the array that the code makes it in: its words, and zeros after them
+abbrev Zeros : List ℤ → Type 0
+Zeros l = (i : ℕ) → wordOf l i ≡ pos 0
+
+pub zeros : (n : ℕ) → Zeros (replicate n (pos 0))
+zeros zero i = refl
+zeros (suc n) zero = refl
+zeros (suc n) (suc i) = zeros n i
+
+zeros-after : (l z : List ℤ) → Zeros z → (i : ℕ) → wordOf (l ++ z) i ≡ wordOf l i
+zeros-after [] z h i = h i
+zeros-after (x ∷ l) z h zero = refl
+zeros-after (x ∷ l) z h (suc i) = zeros-after l z h i
+
+slots-are : (l z : List ℤ) → Zeros z → 16 ≤ length (take 16 l) + length z → take 16 (take 16 l ++ z) ≡ slotsOf l
+unfolding slotsOf
+slots-are l z h room =
+    ext-getD (pos 0) _ _ (long ∙ sym (length-tabulate (λ i. wordOf l i) 16))
+    (λ i b.
+    let below : i < 16 = omega (arith, long) in
+    getD-take 16 (take 16 l ++ z) i (pos 0) below
+    ∙ zeros-after (take 16 l) z h i
+    ∙ getD-take 16 l i (pos 0) below
+    ∙ sym (getD-tabulate (λ j. wordOf l j) 16 i (pos 0) below))
+  where
+    long : length (take 16 (take 16 l ++ z)) ≡ 16
+    long = length-take-le 16 (take 16 l ++ z) (let e = length-append (take 16 l) z in omega arith)
+
+pub few : (l : List ℤ) → length (take 16 l) ≤ 16
+few l = simp length-take (omega arith)
+
+-- both copies, one after the other: the low ends into zeros, which gives e, and the high ends into that
+module _ (lows highs d e f : List ℤ) (z : Zeros d) (room : length d ≡ 32) (p : e ≡ paste d 0 (take 16 lows) (length (take 16 lows))) where
+  low-copy : e ≡ take 16 lows ++ drop (length (take 16 lows)) d
+  low-copy = rw (take-length (take 16 lows), zero-add (length (take 16 lows))) at p
+
+  low-rest : Zeros (drop (length (take 16 lows)) d)
+  low-rest i = getD-drop (length (take 16 lows)) d i (pos 0) ∙ z _
+
+  low-room : length e ≡ 32
+  low-room =
+      ap length low-copy ∙ length-append (take 16 lows) _
+      ∙ (let few-lows = few lows in simp length-drop (omega (arith, room)))
+
+  -- past the low ends there are zeros, wherever the high ends come to
+  high-rest : (k : ℕ) → 16 ≤ k → Zeros (drop k e)
+  high-rest k h i =
+      getD-drop k e i (pos 0)
+      ∙ ap (λ (l : List ℤ). wordOf l (k + i)) low-copy
+      ∙ zeros-after (take 16 lows) _ low-rest (k + i)
+      ∙ List·getD-eq-default (take 16 lows) (pos 0) {n = k + i} (let few-lows = few lows in omega arith)
+
+  pub own-in : f ≡ paste e 16 (take 16 highs) (length (take 16 highs)) → rowIn f ≡ ownOf (rowOf lows highs)
+  own-in q = same-row low high
+    where
+      parts : f ≡ take 16 e ++ (take 16 highs ++ drop (16 + length (take 16 highs)) e)
+      parts = q ∙ append-assoc (take 16 e) _ _ ∙ ap (λ (l : List ℤ). take 16 e ++ (l ++ drop (16 + length (take 16 highs)) e)) (take-length (take 16 highs))
+
+      half : length (take 16 e) ≡ 16
+      half = length-take-le 16 e (omega (arith, low-room))
+
+      low : take 16 f ≡ slotsOf lows
+      low =
+          ap (take 16) parts ∙ take-at (take 16 e) _ 16 half ∙ ap (take 16) low-copy
+          ∙ slots-are lows _ low-rest (let few-lows = few lows in simp length-drop (omega (arith, room)))
+
+      high : take 16 (drop 16 f) ≡ slotsOf highs
+      high =
+          ap (λ (l : List ℤ). take 16 (drop 16 l)) parts ∙ ap (take 16) (drop-at (take 16 e) _ 16 half)
+          ∙ slots-are highs _ (high-rest (16 + length (take 16 highs)) (omega arith)) (let few-highs = few highs in simp length-drop (omega (arith, low-room)))
+
+-- a row in an array has its sixteen slots already
+slots-whole : (l : List ℤ) → length l ≡ 16 → slotsOf l ≡ l
+unfolding slotsOf
+slots-whole l e =
+    ext-getD (pos 0) (tabulate (λ i. wordOf l i) 16) l (length-tabulate (λ i. wordOf l i) 16 ∙ sym e)
+    (λ i h. getD-tabulate (λ j. wordOf l j) 16 i (pos 0) (let long = length-tabulate (λ i. wordOf l i) 16 in omega arith))
+
+pub own-again : (ws : List ℤ) → length ws ≡ 32 → ownOf (rowIn ws) ≡ rowIn ws
+own-again ws e = same-row (slots-whole (partOf ws 0 16) (part-length ws 0 16 (omega arith))) (slots-whole (partOf ws 16 16) (part-length ws 16 16 (omega arith)))
 
 -- a store within the slots, and one past them
 module _ (ws : List ℤ) (v : ℕ) (a b : ℤ) where

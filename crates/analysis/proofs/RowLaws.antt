@@ -3,10 +3,11 @@
 use mathlib.Core.Path.{_≡_, refl, sym}
 use mathlib.Core.Bool.{Bool, true}
 use mathlib.Core.List.{List, [], _∷_}
-use Prim.Native.Nat.{ℕ, zero, suc}
+use Prim.Native.Nat.{ℕ, zero, suc, _<_, _≤_}
 use native.Mathlib.Numerals.{one-add}
+use native.Mathlib.Omega.{arith}
 use lib.IntN.{ℤ, pos}
-use lib.ListN.{set, drop}
+use lib.ListN.{set, drop, List·getD-eq-default}
 use lib.Seq.{getD-drop}
 use lib.Signed.{_≤ℤ_, ≤ℤ-refl}
 use Rattle.interval.specs.Integer.{minZ, maxZ}
@@ -20,7 +21,9 @@ use Rattle.interval.proofs.IntegerLaws.{≤-trans, min-left, min-right, max-lef
 use Rattle.interval.proofs.IntervalLaws.{first, last, widen, fromTo-holds, fromTo-only}
 use Rattle.interval.proofs.LatticeLaws.{within-holds, fromTo-mono, Ordered, meet-ordered, meet-contains, meet-within-left}
 use Rattle.words.specs.Words.{wordOf}
-use Rattle.analysis.specs.Rows.{Row, rowOf, rangeOf, Maybe, none, some, rowIf, thenRow, putOf, meetAtOf, eachRest, each, joinRowsOf, Inside, Kept, MaybeWithin}
+use Rattle.words.specs.Tabulate.{tabulate}
+use Rattle.words.proofs.FillLaws.{length-tabulate, getD-tabulate}
+use Rattle.analysis.specs.Rows.{Row, rowOf, rangeOf, slotsOf, Maybe, none, some, rowIf, thenRow, putOf, meetAtOf, eachRest, each, joinRowsOf, Inside, Kept, MaybeWithin}
 use Rattle.analysis.specs.Analysis.{branchOf}
 
 -- ---- a word put in place, and words joined place by place
@@ -45,6 +48,16 @@ module _ (f : ℤ → ℤ → ℤ) (z : f (pos 0) (pos 0) ≡ pos 0) where
   each-is [] m v = rest-is m v
   each-is (x ∷ l) m zero = refl
   each-is (x ∷ l) m (suc v) = rw (getD-drop 1 m v (pos 0), one-add v) at (each-is l (drop 1 m) v)
+
+-- ---- the sixteen slots: the words in their places, and none past them
+module _ (ws : List ℤ) (v : ℕ) where
+  pub slots-within : v < 16 → wordOf (slotsOf ws) v ≡ wordOf ws v
+  unfolding slotsOf
+  slots-within h = getD-tabulate (λ i. wordOf ws i) 16 v (pos 0) h
+
+  pub slots-past : 16 ≤ v → wordOf (slotsOf ws) v ≡ pos 0
+  unfolding slotsOf
+  slots-past h = List·getD-eq-default (tabulate (λ i. wordOf ws i) 16) (pos 0) {n = v} (let long = length-tabulate (λ i. wordOf ws i) 16 in omega arith)
 
 -- ---- rows by their ends
 -- each end of r lies at that of s or further in. This says more than `RowWithin`, which looks at no ends that hold no number between them: a join

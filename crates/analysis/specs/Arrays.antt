@@ -1,16 +1,18 @@
 -- Rows as the code has them: in an array that is read, or that is lent to be narrowed in its place. No definition of the analysis needs this.
 -- Assumes nothing.
-use Prim.Native.Nat.{ℕ, _-_}
+use Prim.Native.Nat.{ℕ}
 use mathlib.Core.Path.{_≡_}
-use mathlib.Core.Bool.{Bool, true, false, cond}
+use mathlib.Core.Bool.{Bool, true, false, cond, _&&_}
 use mathlib.Core.List.{List}
 use lib.Dec.{ltb}
 use lib.IntN.{ℤ, pos}
 use lib.ListN.{replicate}
 use Rattle.interval.specs.Integer.{minZ, maxZ}
 use Rattle.interval.specs.declared.Interval.{Interval}
-use Rattle.words.specs.Words.{wordOf, partOf}
-use Rattle.table.specs.Tree.{Cond, arithAt}
+use Rattle.words.specs.Words.{partOf}
+use Rattle.interval.specs.declared.Interval.the-variants.{None, Between}
+use Rattle.interval.specs.declared.Cuts.{Cuts}
+use Rattle.table.specs.Tree.{Arith, constant, input, variable, negation, binary, choice, noArith, Cond, arithAt}
 use Rattle.analysis.specs.declared.Split.{Split}
 use Rattle.analysis.specs.Rows.{Row, rowOf, Maybe, none, some}
 use Rattle.analysis.specs.Analysis.{valueOf, decisionOf, narrowOf}
@@ -19,10 +21,7 @@ use Rattle.analysis.specs.Analysis.{valueOf, decisionOf, narrowOf}
 abbrev pub rowIn : List ℤ → Row
 rowIn ws = rowOf (partOf ws 0 16) (partOf ws 16 16)
 
--- the word i of a row's array, and that of two rows together, whose words there are x and y
-unfoldable pub endOf : Row → ℕ → ℤ
-endOf r i = cond (ltb i 16) (wordOf (r .lows) i) (wordOf (r .highs) (i - 16))
-
+-- the word i of two rows together, whose words there are x and y
 unfoldable pub outerOf : ℕ → ℤ → ℤ → ℤ
 outerOf i x y = cond (ltb i 16) (minZ x y) (maxZ x y)
 
@@ -38,6 +37,25 @@ leftOf (some r) = r
 -- what a condition says of a row: its decision, and which of the two narrowings leave a row
 abbrev pub splitOf : Cond → Row → Split
 splitOf c r = record { decision = decisionOf c r; yes = isSome (narrowOf c true r); no = isSome (narrowOf c false r) }
+
+-- ---- whether a branch of a choice by a comparison needs a row of its own
+-- 'only variable nodes carry the cut back to the row'
+unfoldable pub carriesOf : Arith → Bool
+carriesOf (constant n z) = false
+carriesOf (input n a b) = false
+carriesOf (variable n v) = true
+carriesOf (negation n x) = false
+carriesOf (binary n op x y) = false
+carriesOf (choice n c x y) = false
+carriesOf (noArith n) = false
+
+-- whether cuts leave something of both sides
+unfoldable pub somethingOf : Interval → Bool
+somethingOf None = false
+somethingOf (Between a b) = true
+
+abbrev pub leavesOf : Cuts → Bool
+leavesOf u = somethingOf (u .left) && somethingOf (u .right)
 
 -- ---- what is known of an array that is lent
 -- where it is told so, its words are those of the row that is read

@@ -19,6 +19,7 @@ use Rattle.analysis.specs.declared.Alarm.{Alarm}
 use Rattle.analysis.specs.Rows.{Row, Inside, Kept, MaybeWithin}
 use Rattle.analysis.specs.Alarms.{lists, placeOf, markedOf}
 use Rattle.analysis.specs.Analysis.{valueOf, alarmsOf, decisionOf, condAlarmsOf, narrowOf}
+use Rattle.analysis.specs.Reads.{reads, condReads, Agree, NoneEmpty, Paired}
 
 abbrev pub IsKind : ℕ → Type 0
 IsKind k = (k ≡ 1) ⊎ (k ≡ 2)
@@ -42,3 +43,10 @@ pub record Laws : Type 0 where
   pub alarms-kinds : (x : Arith) (r : Row) → Kinds (alarmsOf x r)
   pub condAlarms-kinds : (c : Cond) (r : Row) → Kinds (condAlarmsOf c r)
   pub marked-lists : (l : List Alarm) (room n k : ℕ) → Kinds l → IsKind k → placeOf n k < room → eqb (getD (markedOf (replicate room 0) l) (placeOf n k) 0) 1 ≡ lists n k l
+  -- two rows that agree on every variable that a tree reads give it the same interval, or decision, and the same alarms. This holds of rows with empty
+  -- intervals too; a row of a table has as many high ends as low ends
+  pub value-agrees : (x : Arith) (r s : Row) → Paired r → Paired s → Agree (reads x) r s → (valueOf x r ≡ valueOf x s) × (alarmsOf x r ≡ alarmsOf x s)
+  pub decision-agrees : (c : Cond) (r s : Row) → Paired r → Paired s → Agree (condReads c) r s → (decisionOf c r ≡ decisionOf c s) × (condAlarmsOf c r ≡ condAlarmsOf c s)
+  -- the same as it was asked for: 'two rows without empty intervals which agree on every variable read anywhere in a condition'
+  pub decision-agrees-none-empty :
+      (c : Cond) (r s : Row) → Paired r → Paired s → NoneEmpty r → NoneEmpty s → Agree (condReads c) r s → (decisionOf c r ≡ decisionOf c s) × (condAlarmsOf c r ≡ condAlarmsOf c s)

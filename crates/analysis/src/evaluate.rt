@@ -5,11 +5,16 @@ use crate::Copies;
 use crate::Row;
 use crate::Split;
 use crate::alarms::mark_told;
+use crate::narrow::carries;
 use crate::narrow::carry_both;
+use crate::narrow::leaves;
 use crate::rows::clear_unless;
+use crate::rows::high_ends;
 use crate::rows::is_copy;
 use crate::rows::join_rows;
-use crate::rows::range_in;
+use crate::rows::low_ends;
+use crate::rows::own;
+use crate::rows::slot;
 use interval::Comparison;
 use interval::Decision;
 use interval::Interval;
@@ -28,31 +33,46 @@ ghost use mathlib.Core.Path.{_≡_};
 ghost use mathlib.Core.Bool.{true, false};
 ghost use Rattle.interval.specs.Compare.{decision, oppositeOf, compareOf};
 ghost use Rattle.table.specs.Tree.{choice, compare, both, either, arithAt, condAt};
-ghost use Rattle.analysis.specs.Rows.{maybeBy};
+ghost use Rattle.interval.specs.Narrow.{cutsOf};
+ghost use Rattle.analysis.specs.Rows.{rowOf, ownOf, rowIf, maybeBy};
 ghost use Rattle.analysis.specs.Alarms.{markedOf};
-ghost use Rattle.analysis.specs.Analysis.{valueOf, alarmsOf, decisionOf, condAlarmsOf, narrowOf, rangeOn, alarmsOn};
+ghost use Rattle.analysis.specs.Analysis.{valueOf, alarmsOf, decisionOf, condAlarmsOf, narrowOf, rangeOn, alarmsOn, carryBothOf};
 ghost use Rattle.analysis.specs.Arrays.{rowIn, leftOf, splitOf, CopyIf, KnownIf};
 
-// The interval of the arithmetic node n.
+// The interval of the arithmetic node n on a row in an array.
 pub fn value<'a, 'b, 'c>(nodes: &'a [i32], n: usize, row: &'b Row, marks: &'c mut [u8]) -> Interval
     ensures { λ r. ⌜ r ≡ valueOf (arithAt (now (nodes .entry)) n) (rowIn (now (row .entry))) ⌝ }
     ensures { λ r. ⌜ now (marks .exit) ≡ markedOf (now (marks .entry)) (alarmsOf (arithAt (now (nodes .entry)) n) (rowIn (now (row .entry)))) ⌝ }
+{
+    value_on(nodes, n, low_ends(row), high_ends(row), marks)
+}
+
+// The same on the sixteen slots of a row that is read where it lies.
+pub fn value_on<'a, 'b, 'c>(
+    nodes: &'a [i32],
+    n: usize,
+    lows: &'b [i32],
+    highs: &'b [i32],
+    marks: &'c mut [u8],
+) -> Interval
+    ensures { λ r. ⌜ r ≡ valueOf (arithAt (now (nodes .entry)) n) (ownOf (rowOf (now (lows .entry)) (now (highs .entry)))) ⌝ }
+    ensures { λ r. ⌜ now (marks .exit) ≡ markedOf (now (marks .entry)) (alarmsOf (arithAt (now (nodes .entry)) n) (ownOf (rowOf (now (lows .entry)) (now (highs .entry))))) ⌝ }
 {
     let s = shape_at(nodes, n);
     match s {
         Shape::Constant(z) => Interval::Between(z, z),
         Shape::Input(a, b) => Interval::Between(a, max32(a, b)),
-        Shape::Variable(v) => range_in(row, v),
+        Shape::Variable(v) => slot(lows, highs, v),
         Shape::Negation(a) => {
-            let x = value(nodes, a, row, marks);
+            let x = value_on(nodes, a, lows, highs, marks);
             mark_told(marks, n, negate(x))
         }
         Shape::Binary(op, a, b) => {
-            let x = value(nodes, a, row, marks);
-            let y = value(nodes, b, row, marks);
+            let x = value_on(nodes, a, lows, highs, marks);
+            let y = value_on(nodes, b, lows, highs, marks);
             mark_told(marks, n, operate(op, x, y))
         }
-        Shape::Choice(c, a, b) => choose(nodes, c, a, b, row, marks),
+        Shape::Choice(c, a, b) => choose(nodes, c, a, b, lows, highs, marks),
         Shape::Compare(_, _, _) => Interval::Between(0, 0),
         Shape::Both(_, _) => Interval::Between(0, 0),
         Shape::Either(_, _) => Interval::Between(0, 0),
@@ -61,25 +81,88 @@ pub fn value<'a, 'b, 'c>(nodes: &'a [i32], n: usize, row: &'b Row, marks: &'c mu
     }
 }
 
-// A choice by the condition node c. Its branches' rows are made here, and the condition narrows them in their places.
+// A choice by the condition node c. The sides of a comparison are evaluated once, for its decision and for both branches.
 fn choose<'a, 'b, 'c>(
     nodes: &'a [i32],
     c: usize,
     a: usize,
     b: usize,
-    row: &'b Row,
+    lows: &'b [i32],
+    highs: &'b [i32],
     marks: &'c mut [u8],
 ) -> Interval
-    ensures { λ r. ⌜ r ≡ valueOf (choice 0 (condAt (now (nodes .entry)) c) (arithAt (now (nodes .entry)) a) (arithAt (now (nodes .entry)) b)) (rowIn (now (row .entry))) ⌝ }
-    ensures { λ r. ⌜ now (marks .exit) ≡ markedOf (now (marks .entry)) (alarmsOf (choice 0 (condAt (now (nodes .entry)) c) (arithAt (now (nodes .entry)) a) (arithAt (now (nodes .entry)) b)) (rowIn (now (row .entry)))) ⌝ }
+    ensures { λ r. ⌜ r ≡ valueOf (choice 0 (condAt (now (nodes .entry)) c) (arithAt (now (nodes .entry)) a) (arithAt (now (nodes .entry)) b)) (ownOf (rowOf (now (lows .entry)) (now (highs .entry)))) ⌝ }
+    ensures { λ r. ⌜ now (marks .exit) ≡ markedOf (now (marks .entry)) (alarmsOf (choice 0 (condAt (now (nodes .entry)) c) (arithAt (now (nodes .entry)) a) (arithAt (now (nodes .entry)) b)) (ownOf (rowOf (now (lows .entry)) (now (highs .entry))))) ⌝ }
 {
-    let mut yes = *row;
-    let mut no = *row;
+    let s = shape_at(nodes, c);
+    match s {
+        Shape::Compare(k, l, r) => {
+            let x = value_on(nodes, l, lows, highs, marks);
+            let y = value_on(nodes, r, lows, highs, marks);
+            let d = compare(k, x, y);
+            let i = branch_by(d.yes, nodes, k, true, l, r, x, y, a, lows, highs, marks);
+            let j = branch_by(d.no, nodes, k, false, l, r, x, y, b, lows, highs, marks);
+            join(i, j)
+        }
+        _ => choose_of(nodes, c, a, b, lows, highs, marks),
+    }
+}
+
+// A branch of a choice by a comparison of the nodes a and b, whose intervals are x and y: the interval of the arithmetic node n where the branch is
+// taken, else none. It needs a row of its own only if a side is a variable, which alone carries a cut back.
+fn branch_by<'a, 'b, 'c>(
+    taken: bool,
+    nodes: &'a [i32],
+    k: Comparison,
+    wanted: bool,
+    a: usize,
+    b: usize,
+    x: Interval,
+    y: Interval,
+    n: usize,
+    lows: &'b [i32],
+    highs: &'b [i32],
+    marks: &'c mut [u8],
+) -> Interval
+    ensures { λ r. ⌜ r ≡ rangeOn (rowIf taken (carryBothOf (arithAt (now (nodes .entry)) a) (arithAt (now (nodes .entry)) b) (cutsOf k wanted x y) (ownOf (rowOf (now (lows .entry)) (now (highs .entry)))))) (valueOf (arithAt (now (nodes .entry)) n)) ⌝ }
+    ensures { λ r. ⌜ now (marks .exit) ≡ markedOf (now (marks .entry)) (alarmsOn (rowIf taken (carryBothOf (arithAt (now (nodes .entry)) a) (arithAt (now (nodes .entry)) b) (cutsOf k wanted x y) (ownOf (rowOf (now (lows .entry)) (now (highs .entry)))))) (alarmsOf (arithAt (now (nodes .entry)) n))) ⌝ }
+{
+    if !taken {
+        return Interval::None;
+    }
+    let u = cuts(k, wanted, x, y);
+    if carries(nodes, a) | carries(nodes, b) {
+        let mut row = own(lows, highs);
+        let some = carry_both(nodes, a, b, u, &mut row);
+        return branch(some, nodes, n, &row, marks);
+    }
+    if !leaves(u) {
+        return Interval::None;
+    }
+    value_on(nodes, n, lows, highs, marks)
+}
+
+// A choice by another condition, which is decided on a row in an array: its sides narrow both branches' rows in their places.
+fn choose_of<'a, 'b, 'c>(
+    nodes: &'a [i32],
+    c: usize,
+    a: usize,
+    b: usize,
+    lows: &'b [i32],
+    highs: &'b [i32],
+    marks: &'c mut [u8],
+) -> Interval
+    ensures { λ r. ⌜ r ≡ valueOf (choice 0 (condAt (now (nodes .entry)) c) (arithAt (now (nodes .entry)) a) (arithAt (now (nodes .entry)) b)) (ownOf (rowOf (now (lows .entry)) (now (highs .entry)))) ⌝ }
+    ensures { λ r. ⌜ now (marks .exit) ≡ markedOf (now (marks .entry)) (alarmsOf (choice 0 (condAt (now (nodes .entry)) c) (arithAt (now (nodes .entry)) a) (arithAt (now (nodes .entry)) b)) (ownOf (rowOf (now (lows .entry)) (now (highs .entry))))) ⌝ }
+{
+    let row = own(lows, highs);
+    let mut yes = row;
+    let mut no = row;
     let copies = Copies {
         yes: true,
         no: true,
     };
-    let s = split(nodes, c, row, marks, copies, &mut yes, &mut no);
+    let s = split(nodes, c, &row, marks, copies, &mut yes, &mut no);
     let d = s.decision;
     let x = branch(d.yes & s.yes, nodes, a, &yes, marks);
     let y = branch(d.no & s.no, nodes, b, &no, marks);
@@ -293,8 +376,8 @@ fn no_condition() -> Split
     }
 }
 
-// What the condition node n says of the row: its decision, with its alarms, and in their places the row where it is true and the row where it is not,
-// zeros where there is none.
+// What the condition node n says of a row in an array: its decision, with its alarms, and in their places the row where it is true and the row where
+// it is not, zeros where there is none.
 pub fn sides<'a, 'b, 'c, 'd, 'e>(
     nodes: &'a [i32],
     n: usize,
@@ -308,14 +391,62 @@ pub fn sides<'a, 'b, 'c, 'd, 'e>(
     ensures { λ r. ⌜ rowIn (now (no .exit)) ≡ leftOf (narrowOf (condAt (now (nodes .entry)) n) false (rowIn (now (row .entry)))) ⌝ }
     ensures { λ r. ⌜ now (marks .exit) ≡ markedOf (now (marks .entry)) (condAlarmsOf (condAt (now (nodes .entry)) n) (rowIn (now (row .entry)))) ⌝ }
 {
-    *yes = *row;
-    *no = *row;
+    sides_on(nodes, n, low_ends(row), high_ends(row), marks, yes, no)
+}
+
+// The same of the sixteen slots of a row that is read where it lies.
+pub fn sides_on<'a, 'b, 'c, 'd, 'e>(
+    nodes: &'a [i32],
+    n: usize,
+    lows: &'b [i32],
+    highs: &'b [i32],
+    marks: &'c mut [u8],
+    yes: &'d mut Row,
+    no: &'e mut Row,
+) -> Split
+    ensures { λ r. ⌜ r ≡ splitOf (condAt (now (nodes .entry)) n) (ownOf (rowOf (now (lows .entry)) (now (highs .entry)))) ⌝ }
+    ensures { λ r. ⌜ rowIn (now (yes .exit)) ≡ leftOf (narrowOf (condAt (now (nodes .entry)) n) true (ownOf (rowOf (now (lows .entry)) (now (highs .entry))))) ⌝ }
+    ensures { λ r. ⌜ rowIn (now (no .exit)) ≡ leftOf (narrowOf (condAt (now (nodes .entry)) n) false (ownOf (rowOf (now (lows .entry)) (now (highs .entry))))) ⌝ }
+    ensures { λ r. ⌜ now (marks .exit) ≡ markedOf (now (marks .entry)) (condAlarmsOf (condAt (now (nodes .entry)) n) (ownOf (rowOf (now (lows .entry)) (now (highs .entry))))) ⌝ }
+{
+    *yes = own(lows, highs);
+    *no = *yes;
+    let s = split_on(nodes, n, lows, highs, marks, yes, no);
+    clear_unless(s.yes, yes);
+    clear_unless(s.no, no);
+    s
+}
+
+// The same in two copies of the row. The sides of a comparison are read where the row lies; any other condition is decided on a row in an array.
+fn split_on<'a, 'b, 'c, 'd, 'e>(
+    nodes: &'a [i32],
+    n: usize,
+    lows: &'b [i32],
+    highs: &'b [i32],
+    marks: &'c mut [u8],
+    yes: &'d mut Row,
+    no: &'e mut Row,
+) -> Split
+    requires { ⌜ (rowIn (now yes) ≡ ownOf (rowOf (now lows) (now highs))) × (now no ≡ now yes) ⌝ }
+    ensures { λ r. ⌜ r .decision ≡ decisionOf (condAt (now (nodes .entry)) n) (ownOf (rowOf (now (lows .entry)) (now (highs .entry)))) ⌝ }
+    ensures { λ r. ⌜ maybeBy (r .yes) (rowIn (now (yes .exit))) ≡ narrowOf (condAt (now (nodes .entry)) n) true (ownOf (rowOf (now (lows .entry)) (now (highs .entry)))) ⌝ }
+    ensures { λ r. ⌜ maybeBy (r .no) (rowIn (now (no .exit))) ≡ narrowOf (condAt (now (nodes .entry)) n) false (ownOf (rowOf (now (lows .entry)) (now (highs .entry)))) ⌝ }
+    ensures { λ r. ⌜ now (marks .exit) ≡ markedOf (now (marks .entry)) (condAlarmsOf (condAt (now (nodes .entry)) n) (ownOf (rowOf (now (lows .entry)) (now (highs .entry))))) ⌝ }
+{
     let copies = Copies {
         yes: true,
         no: true,
     };
-    let s = split(nodes, n, row, marks, copies, yes, no);
-    clear_unless(s.yes, yes);
-    clear_unless(s.no, no);
-    s
+    let shape = shape_at(nodes, n);
+    match shape {
+        Shape::Compare(k, a, b) => {
+            let x = value_on(nodes, a, lows, highs, marks);
+            let y = value_on(nodes, b, lows, highs, marks);
+            split_by(nodes, k, a, b, x, y, copies, yes, no)
+        }
+        _ => {
+            let row = *yes;
+            split(nodes, n, &row, marks, copies, yes, no)
+        }
+    }
 }

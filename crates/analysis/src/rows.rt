@@ -11,12 +11,14 @@ use words::part;
 use words::word;
 ghost use mathlib.Core.Path.{_≡_};
 ghost use mathlib.Core.Bool.{true};
+ghost use Prim.Native.Nat.{_≤_};
 ghost use lib.ListN.{length};
+ghost use lib.Seq.{paste};
 ghost use Rattle.interval.specs.Integer.{eqZ};
 ghost use Rattle.words.specs.Words.{wordOf};
 ghost use Rattle.words.specs.First.{allBelow};
 ghost use Rattle.analysis.specs.Rows.{rowOf, rangeOf, ownOf, putOf, meetAtOf, joinRowsOf, some, maybeBy};
-ghost use Rattle.analysis.specs.Arrays.{rowIn, endOf, outerOf, leftOf};
+ghost use Rattle.analysis.specs.Arrays.{rowIn, outerOf, leftOf};
 
 // The interval of the variable v.
 pub fn range<'a>(lows: &'a [i32], highs: &'a [i32], v: usize) -> Interval
@@ -46,14 +48,25 @@ pub(crate) fn range_in(row: &[i32], v: usize) -> Interval
     range(low_ends(row), high_ends(row), v)
 }
 
-// The word i of a row in an array: the low ends, then the high ends.
-fn end<'a>(lows: &'a [i32], highs: &'a [i32], i: usize) -> i32
-    ensures { λ r. ⌜ r ≡ endOf (rowOf (now (lows .entry)) (now (highs .entry))) i ⌝ }
+// The interval of the variable v in the sixteen slots of a row, which is read where it lies.
+pub(crate) fn slot<'a>(lows: &'a [i32], highs: &'a [i32], v: usize) -> Interval
+    ensures { λ r. ⌜ r ≡ rangeOf (ownOf (rowOf (now (lows .entry)) (now (highs .entry)))) v ⌝ }
 {
-    if i < 16 {
-        word(lows, i)
-    } else {
-        word(highs, i - 16)
+    if 16 <= v {
+        return Interval::Between(0, 0);
+    }
+    range(lows, highs, v)
+}
+
+// The words ws in the row's array, from the place at on.
+fn put_ends<'a, 'b>(row: &'a mut [i32], at: usize, ws: &'b [i32])
+    requires { ⌜ (length (now row) ≡ 32) × (at ≤ 16) × (length (now ws) ≤ 16) ⌝ }
+    ensures { λ r. ⌜ now (row .exit) ≡ paste (now (row .entry)) at (now (ws .entry)) (length (now (ws .entry))) ⌝ }
+{
+    let mut i = 0;
+    while i < ws.len() {
+        row[at + i] = ws[i];
+        i += 1;
     }
 }
 
@@ -62,11 +75,8 @@ pub fn own<'a>(lows: &'a [i32], highs: &'a [i32]) -> Row
     ensures { λ r. ⌜ rowIn r ≡ ownOf (rowOf (now (lows .entry)) (now (highs .entry))) ⌝ }
 {
     let mut row = [0i32; 32];
-    let mut i = 0;
-    while i < 32 {
-        row[i] = end(lows, highs, i);
-        i += 1;
-    }
+    put_ends(&mut row, 0, part(lows, 0, 16));
+    put_ends(&mut row, 16, part(highs, 0, 16));
     row
 }
 

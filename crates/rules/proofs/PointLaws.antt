@@ -103,13 +103,13 @@ module _ (t w : List ℤ) where
         (ap (λ (y : Fits). fits (y .locks) (y .flow) (filed t w (taskOf t p) s v (Between lo hi))) (one-side s q _ d y (rw (a, b) at j)))
 
     -- ---- a test
-    pub test-fits : (c y n : ℕ) {nodes : List ℤ} {row a b : Row} {said : Split} {i o : Fits} → nodes ≡ nodesOf t → row ≡ ownOf r
-        → said ≡ splitOf (condAt nodes c) row → a ≡ leftOf (narrowOf (condAt nodes c) true row) → b ≡ leftOf (narrowOf (condAt nodes c) false row)
+    pub test-fits : (c y n : ℕ) {nodes : List ℤ} {a b : Row} {said : Split} {i o : Fits} → nodes ≡ nodesOf t → said ≡ splitOf (condAt nodes c) (ownOf r)
+        → a ≡ leftOf (narrowOf (condAt nodes c) true (ownOf r)) → b ≡ leftOf (narrowOf (condAt nodes c) false (ownOf r))
         → i ≡ sideOf t w (outcomeIf (maybeBy (said .yes) a) s y) → o ≡ sideOf t w (outcomeIf (maybeBy (said .no) b) s n)
         → fits (i .locks && o .locks) (i .flow && o .flow) true ≡ fitsBy t w (Test c y n) p s r
     unfolding fitsBy outcomesBy writes locksFit rowsFit
-    test-fits c y n e f d g j h k =
-        rw (h, k, rw (e, f) at d, rw (e, f) at g, rw (e, f) at j, left-again (narrowOf (condAt (nodesOf t) c) true (ownOf r)), left-again (narrowOf (condAt (nodesOf t) c) false (ownOf r)), all-append, all-append)
+    test-fits c y n e d g j h k =
+        rw (h, k, rw e at d, rw e at g, rw e at j, left-again (narrowOf (condAt (nodesOf t) c) true (ownOf r)), left-again (narrowOf (condAt (nodesOf t) c) false (ownOf r)), all-append, all-append)
 
     -- ---- a lock
     pub lock-held : (m q : ℕ) {y : Fits} → hasOf s m ≡ true → y ≡ allFit → y ≡ fitsBy t w (Lock m q) p s r

@@ -13,11 +13,10 @@ use crate::rows::met_within;
 use crate::rows::row_within;
 use crate::rows::written_within;
 use analysis::Row;
-use analysis::evaluate::sides;
-use analysis::evaluate::value;
+use analysis::evaluate::sides_on;
+use analysis::evaluate::value_on;
 use analysis::rows::high_ends;
 use analysis::rows::low_ends;
-use analysis::rows::own;
 use interval::Interval;
 use table::Point;
 use table::decode::point_at;
@@ -72,8 +71,7 @@ fn assign_fits<'a, 'b>(
     ensures { λ r. ⌜ r ≡ fitsBy (now (t .entry)) (now (w .entry)) (Assign v e q) p s (rowOf (now (lows .entry)) (now (highs .entry))) ⌝ }
     ensures { λ r. ⌜ now (marks .exit) ≡ markedOf (now (marks .entry)) (alarmsBy (now (t .entry)) (Assign v e q) (rowOf (now (lows .entry)) (now (highs .entry)))) ⌝ }
 {
-    let row = own(lows, highs);
-    let x = value(nodes, e, &row, marks);
+    let x = value_on(nodes, e, lows, highs, marks);
     let Interval::Between(low, high) = x else {
         return no_outcome();
     };
@@ -146,10 +144,9 @@ fn test_fits<'a, 'b>(
     ensures { λ r. ⌜ r ≡ fitsBy (now (t .entry)) (now (w .entry)) (Test c y n) p s (rowOf (now (lows .entry)) (now (highs .entry))) ⌝ }
     ensures { λ r. ⌜ now (marks .exit) ≡ markedOf (now (marks .entry)) (alarmsBy (now (t .entry)) (Test c y n) (rowOf (now (lows .entry)) (now (highs .entry)))) ⌝ }
 {
-    let row = own(lows, highs);
-    let mut yes = row;
-    let mut no = row;
-    let said = sides(nodes, c, &row, marks, &mut yes, &mut no);
+    let mut yes = [0i32; 32];
+    let mut no = [0i32; 32];
+    let said = sides_on(nodes, c, lows, highs, marks, &mut yes, &mut no);
     let taken = side(t, w, all_lows, all_highs, s, y, said.yes, &yes);
     let other = side(t, w, all_lows, all_highs, s, n, said.no, &no);
     Fits {

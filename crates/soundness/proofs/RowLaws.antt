@@ -13,7 +13,7 @@ use Prim.Native.Nat.{ℕ, zero, suc, _+_, _*_, _<_, _≤_}
 use mathlib.Core.Path.{_≡_, sym, ap, subst, _∙_}
 use mathlib.Core.Bool.{true, not}
 use mathlib.Core.List.{List}
-use native.Mathlib.Nat.{not-suc-le-zero, le-of-suc-le-suc, mul-le-mul-right, suc-mul}
+use native.Mathlib.Nat.{mul-le-mul-right, suc-mul}
 use native.Mathlib.Decide.{decLt, ℕ-discrete}
 use native.Mathlib.Omega.{arith}
 use lib.IntN.{ℤ, pos}
@@ -30,14 +30,12 @@ use Rattle.interval.proofs.IntervalLaws.{first, fromTo-holds, fromTo-only}
 use Rattle.interval.proofs.LatticeLaws.{within-holds, holds-some, meet-contains}
 use Rattle.words.specs.Words.{wordOf}
 use Rattle.words.specs.First.{allBelow}
-use Rattle.words.specs.Tabulate.{tabulate}
 use Rattle.words.proofs.FirstLaws.{allBelow-each, each-allBelow}
-use Rattle.words.proofs.FillLaws.{length-tabulate, tabulate-front}
 use Rattle.words.proofs.PartLaws.{part-length}
 use Rattle.table.specs.Layout.{sizesOf, startsOf}
 use Rattle.table.proofs.LayoutLaws.{part-within}
 use Rattle.analysis.specs.Rows.{Row, rangeOf, slotsOf, ownOf, rowIf, Inside, Kept}
-use Rattle.analysis.proofs.RowLaws.{set-all, each-is}
+use Rattle.analysis.proofs.RowLaws.{set-all, each-is, slots-within, slots-past}
 use Rattle.rules.specs.Proposal.{rowsOf, intervalsOf, lowsFrom, proposalLength, lowsOf, highsOf, rowAt}
 use Rattle.rules.specs.Outcomes.{rowWithinOf, meetRowsOf, assigned}
 use Rattle.rules.specs.Rules.{holdsStart}
@@ -45,12 +43,6 @@ use Rattle.run.specs.State.{valuesOf}
 
 -- ---- lists
 module _ {A : Type 0} where
-  pub getD-tabulate : (f : ℕ → A) (n i : ℕ) (d : A) → i < n → getD (tabulate f n) i d ≡ f i
-  getD-tabulate f zero i d h = absurd (not-suc-le-zero h)
-  getD-tabulate f (suc n) zero d h = ap (λ (l : List A). getD l 0 d) (tabulate-front f n)
-  getD-tabulate f (suc n) (suc i) d h =
-      ap (λ (l : List A). getD l (suc i) d) (tabulate-front f n) ∙ getD-tabulate (λ j. f (suc j)) n i d (le-of-suc-le-suc h)
-
   -- what holds of the new element at its index, and of the others at theirs, holds at each
   pub at-each : (P : ℕ → A → Type 0) (l : List A) (u : ℕ) (q d : A) → u < length l → P u q → ((x : ℕ) → (x ≡ u → ⊥) → P x (getD l x d))
       → (x : ℕ) → P x (getD (set l u q) x d)
@@ -61,12 +53,9 @@ module _ {A : Type 0} where
 
 -- the first sixteen words of a list that has no more
 slots-word : (ws : List ℤ) (v : ℕ) → length ws ≤ 16 → wordOf (slotsOf ws) v ≡ wordOf ws v
-unfolding slotsOf
 slots-word ws v h = elim (decLt v 16) [
-  | yes l ↦ getD-tabulate (λ i. wordOf ws i) 16 v (pos 0) l
-  | no l ↦
-      List·getD-eq-default (tabulate (λ i. wordOf ws i) 16) (pos 0) {n = v} (omega (arith, length-tabulate (λ i. wordOf ws i) 16))
-      ∙ sym (List·getD-eq-default ws (pos 0) {n = v} (omega arith))
+  | yes l ↦ slots-within ws v l
+  | no l ↦ slots-past ws v (omega arith) ∙ sym (List·getD-eq-default ws (pos 0) {n = v} (omega arith))
 ]
 
 -- the starting values, and their slots

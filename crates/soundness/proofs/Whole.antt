@@ -11,7 +11,7 @@ use lib.IntN.{ℤ, pos, negsuc}
 use lib.ListN.{length, getD-replicate}
 use Rattle.words.specs.Words.{numberOf, numberAt}
 use Rattle.words.proofs.Bools.{and-left}
-use Rattle.words.proofs.FillLaws.{length-tabulate}
+use Rattle.words.proofs.FillLaws.{length-tabulate, getD-tabulate}
 use Rattle.table.specs.Layout.{sizesOf, firstOf, taskOf}
 use Rattle.analysis.specs.Rows.{Inside}
 use Rattle.rules.specs.Held.{hasOf}
@@ -29,7 +29,6 @@ use Rattle.run.proofs.RunLaws.{run-stage, run-last}
 use Rattle.soundness.specs.Safe.{Reached, HoldsNamed, Safe}
 use Rattle.soundness.specs.Claim.{listOf, Claim}
 use Rattle.soundness.proofs.HeldLaws.{has-none}
-use Rattle.soundness.proofs.RowLaws.{getD-tabulate}
 use Rattle.soundness.proofs.RuleLaws.{formed, first-point, first-held, first-row, rest-start}
 use Rattle.soundness.proofs.Invariant.{neither, Inv, inv-safe}
 use Rattle.soundness.proofs.StepLaws.{act-keeps}

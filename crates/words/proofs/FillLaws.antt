@@ -10,7 +10,7 @@ use mathlib.Core.List.{List, [], _∷_, _++_, append-nil}
 use native.Mathlib.Nat.{le-antisymm}
 use native.Mathlib.Numerals.{add-one}
 use native.Mathlib.Omega.{arith}
-use lib.ListN.{length, set, drop, length-append, length-drop, drop-of-length-le}
+use lib.ListN.{length, getD, set, drop, length-append, length-drop, drop-of-length-le}
 use lib.Seq.{drop-cons, set-at, append-snoc}
 use Rattle.words.specs.Tabulate.{tabulate}
 
@@ -25,6 +25,12 @@ module _ {A : Type 0} where
   unfolding tabulate
   tabulate-front f zero = refl
   tabulate-front f (suc n) = ap (λ (l : List A). l ++ (f (suc n) ∷ [])) (tabulate-front f n)
+
+  pub getD-tabulate : (f : ℕ → A) (n i : ℕ) (d : A) → i < n → getD (tabulate f n) i d ≡ f i
+  getD-tabulate f zero i d h = absurd (omega arith)
+  getD-tabulate f (suc n) zero d h = ap (λ (l : List A). getD l 0 d) (tabulate-front f n)
+  getD-tabulate f (suc n) (suc i) d h =
+      ap (λ (l : List A). getD l (suc i) d) (tabulate-front f n) ∙ getD-tabulate (λ j. f (suc j)) n i d (omega arith)
 
   pub record Filled (f : ℕ → A) (d : List A) (n k : ℕ) (l : List A) : Type 0 where
     pub within : k ≤ n

@@ -1,38 +1,39 @@
--- `analysis::rows::own` meets its contract: the loop fills the array with the row's ends, one a turn.
+-- `analysis::rows::own` meets its contract: both lists of ends are copied into zeros.
 -- Assumes nothing.
-use Prim.Native.Nat.{_-_}
-use mathlib.Core.Path.{refl, ap, _∙_}
+use Prim.Native.Nat.{_≤_}
+use mathlib.Core.Path.{_≡_, refl}
+use mathlib.Core.List.{List}
+use native.Mathlib.Omega.{arith}
 use borrow.Author.Needs.{needs}
-use Rattle.interval.proofs.MachineArithmetic.{handed32}
-use Rattle.words.proofs.FillLaws.{Filled, fill, fills, filled-whole}
-use Rattle.analysis.specs.Rows.{rowOf}
-use Rattle.analysis.specs.Arrays.{rowIn, endOf}
-use Rattle.analysis.proofs.RowCodeLaws.{own-in}
+use denote.Ref.{now}
+use lib.IntN.{ℤ, pos}
+use lib.ListN.{length, take, replicate}
+use Rattle.analysis.proofs.RowCodeLaws.{few, zeros, own-in}
 use Rattle.analysis.proofs.rows.own.Statement.{statement}
 use Rattle.analysis.proofs.rows.own.Tie as tie
 
-abbrev Inv-loop : tie.InvT-loop
-Inv-loop lows highs row₀ i₀ row i = Filled (endOf (rowOf lows highs)) row₀ 32 i row
+part-few : {l : List ℤ} (ws : List ℤ) → l ≡ take 16 ws → length l ≤ 16
+part-few ws e = rw e (few ws)
 
-abbrev μ-loop : tie.MeasureT-loop
-μ-loop lows highs row₀ i₀ row i = 32 - i
-
-loop-again : tie.Need-loop-again Inv-loop μ-loop
-loop-again c =
-    let turn = c .before in
-    fills (turn .before .loop .inv) (turn .loop-test .taken) (handed32 (c .end .ensures) (c .end .ok))
+returns : tie.Need-returns
+returns c =
+    let second = c .before in
+    let highs = second .before in
+    let first = highs .before .before .before in
+    let lows = first .before in
+    let args = lows .before .before .args in
+    own-in (now (args .lows)) (now (args .highs)) (replicate 32 (pos 0)) _ _ (zeros 32) refl
+    (rw (lows .part .ensures) at (first .put-ends .ensures))
+    (rw (highs .part2 .ensures) at (second .put-ends2 .ensures))
 
 pub own-spec : {M : Type 1} → statement M
 own-spec =
     tie.close
     (tie.spec
-    Inv-loop
-    μ-loop
-    (λ c. fill (search needs))
+    (λ c. search needs)
     (λ c κs. search needs)
+    (λ c κs. (refl, omega arith, part-few (now (c .before .before .args .lows)) (c .part .ensures)))
     (λ c. search needs)
-    (λ c. search needs)
-    (λ c. search needs)
-    (λ c. search needs)
-    loop-again
-    (λ c. ap rowIn (filled-whole (c .before .loop .inv) (c .loop-test .left) refl) ∙ own-in _))
+    (λ c κs. search needs)
+    (λ c κs. (search needs, omega arith, part-few (now (c .before .before .before .before .before .before .args .highs)) (c .part2 .ensures)))
+    returns)

@@ -12,9 +12,8 @@ unfolding alarmsBy
 nothing c =
     let told = c .before in
     let walk = told .before .before .before .before in
-    let own = walk .before .before .before in
-    let nodes = own .before .before .pre .1 .1 .0 in
-    let valued = rw (own .own .ensures) at (walk .value .ensures) in (
+    let nodes = walk .before .before .before .pre .1 .1 .0 in
+    let valued = walk .value-on .ensures in (
       assign-none _ _ _ _ _ _ _ _ nodes (valued .0) (told .enum-told .given .1) (c .no-outcome .ensures),
       rw nodes at (valued .1),
     )
@@ -30,9 +29,8 @@ written c =
     let told = held .before in
     let matched = told .before in
     let walk = matched .before .before .before .before in
-    let own = walk .before .before .before in
-    let nodes = own .before .before .pre .1 .1 .0 in
-    let valued = rw (own .own .ensures) at (walk .value .ensures) in
+    let nodes = walk .before .before .before .pre .1 .1 .0 in
+    let valued = walk .value-on .ensures in
     let low = read-back {z = matched .x .given .0 .0} (told .known-told .given .0 .1) in
     let high = read-back {z = matched .x .given .0 .1 .0} (told .known-told .given .1 .0 .1) in (
       assign-some _ _ _ _ _ _ _ _ nodes (valued .0) (matched .x .given .1) low high (held .held .ensures .0)
@@ -46,7 +44,6 @@ assign-fits-spec =
     tie.close
     (tie.spec
     (λ c κs. search needs)
-    (λ c κs. search needs)
     (λ c. search needs)
     (λ c. search needs)
     (λ c κs. search needs)
@@ -58,6 +55,6 @@ assign-fits-spec =
     (λ c κs. search needs)
     (λ c κs. search needs)
     (λ c κs. search needs)
-    (λ c κs. c .before .before .before .before .before .before .before .before .before .before .before .before .before .before .before .before .pre .0)
+    (λ c κs. c .before .before .before .before .before .before .before .before .before .before .before .before .before .before .pre .0)
     (λ c. search needs)
     written)

@@ -12,11 +12,10 @@ returns c =
     let other = c .before .before .before .before in
     let taken = other .before .before in
     let said = taken .before .before .before .before in
-    let own = said .before .before .before .before .before in
-    let nodes = own .before .before .pre .1 .0 in
-    let left = said .sides .ensures .1 in (
-      test-fits _ _ _ _ _ _ _ _ nodes (own .own .ensures) (said .sides .ensures .0) (left .0) (left .1 .0) (taken .side .ensures) (other .side2 .ensures),
-      rw (nodes, own .own .ensures) at (left .1 .1),
+    let nodes = said .before .before .before .before .before .pre .1 .0 in
+    let left = said .sides-on .ensures .1 in (
+      test-fits _ _ _ _ _ _ _ _ nodes (said .sides-on .ensures .0) (left .0) (left .1 .0) (taken .side .ensures) (other .side2 .ensures),
+      rw nodes at (left .1 .1),
     )
 
 pub test-fits-spec : {M : Type 1} → statement M
@@ -24,8 +23,7 @@ test-fits-spec =
     tie.close
     (tie.spec
     (λ c κs. search needs)
-    (λ c κs. search needs)
-    (λ c κs. let pre = c .before .before .before .before .before .before .before .before .before .before .pre in (pre .0, pre .1 .1 .0))
-    (λ c κs. let pre = c .before .before .before .before .before .before .before .before .before .before .before .before .pre in (pre .0, pre .1 .1 .1))
+    (λ c κs. let pre = c .before .before .before .before .before .before .before .before .pre in (pre .0, pre .1 .1 .0))
+    (λ c κs. let pre = c .before .before .before .before .before .before .before .before .before .before .pre in (pre .0, pre .1 .1 .1))
     (λ c. search needs)
     returns)
