@@ -33,7 +33,6 @@ use Rattle.analysis.specs.Alarms.{toldOf, markedOf}
 use Rattle.analysis.specs.Analysis.{valueOf, alarmsOf, decisionOf, condAlarmsOf, narrowOf, rangeOn, alarmsOn, carryBothOf}
 use Rattle.analysis.specs.Arrays.{rowIn, isSome, splitOf, CopyIf, KnownIf}
 use Rattle.analysis.proofs.AlarmLaws.{marked-append}
-use Rattle.analysis.proofs.NarrowCodeLaws.{in-turn}
 
 -- marks of one list, then of another
 marked-then : (l k : List Alarm) (m : List ℕ) {m′ m″ : List ℕ} → m′ ≡ markedOf m l → m″ ≡ markedOf m′ k → m″ ≡ markedOf m (l ++ k)
@@ -65,16 +64,6 @@ module _ (ns : List ℤ) (r : Row) (n : ℕ) (m : List ℕ) (t : Bool) where
   pub branch-left-out : t ≡ false → Branched ns (maybeBy t r) n m None m
   unfolding maybeBy rangeOn alarmsOn markedOf
   branch-left-out e = rw e (refl, refl)
-
--- a branch that isn't taken, and one that is, on the row s or none
-module _ (ns : List ℤ) (n : ℕ) (m : List ℕ) (t : Bool) (s : Maybe) where
-  pub left-out : t ≡ false → Branched ns (rowIf t s) n m None m
-  unfolding rowIf rangeOn alarmsOn markedOf
-  left-out e = rw e (refl, refl)
-
-  pub taken-on : {s′ : Maybe} {m′ : List ℕ} {i : Interval} → t ≡ true → s ≡ s′ → Branched ns s′ n m i m′ → Branched ns (rowIf t s) n m i m′
-  unfolding rowIf
-  taken-on e f h = rw (e, f) h
 
 -- a branch is taken if the condition allows it and leaves a row
 taken-both : (t u : Bool) (r : Row) → maybeBy (t && u) r ≡ rowIf t (maybeBy u r)
@@ -122,12 +111,6 @@ chosen ns r c x y m {d} f g u v h p q l =
     let else = rw (taken-both (d .no) g v) at q in
     rw (← h .0, ← h .1 .0, ← h .1 .1 .0, ← then .0, ← else .0) (l, marked-then _ _ m (h .1 .1 .1) (marked-then _ _ _ (then .1) (else .1)))
 
--- a choice by a comparison, from the intervals of its sides and from its branches
-pub chosen-by : (ns : List ℤ) (r : Row) (c a b : ℕ) (m : List ℕ) {k : Comparison} {x y : ℕ} {i j : Interval} {d : Decision} {f g h : Interval} {m₁ m₂ m₃ m₄ : List ℕ} → shapeOf ns c ≡ Compare k x y → Valued ns r x m i m₁ → Valued ns r y m₁ j m₂ → d ≡ compareOf k i j → Branched ns (rowIf (d .yes) (carryBothOf (arithAt ns x) (arithAt ns y) (cutsOf k true i j) r)) a m₂ f m₃ → Branched ns (rowIf (d .no) (carryBothOf (arithAt ns x) (arithAt ns y) (cutsOf k false i j) r)) b m₃ g m₄ → h ≡ joinOf f g → (h ≡ valueOf (choice 0 (condAt ns c) (arithAt ns a) (arithAt ns b)) r) × (m₄ ≡ markedOf m (alarmsOf (choice 0 (condAt ns c) (arithAt ns a) (arithAt ns b)) r))
-unfolding condBy valueOf
-chosen-by ns r c a b m e p q d t u l =
-    rw (cond-of ns c e, ← p .0, ← q .0, ← d, ← t .0, ← u .0) (l, marked-then _ _ m (marked-then _ _ m (p .1) (q .1)) (marked-then _ _ _ (t .1) (u .1)))
-
 -- ---- conditions
 -- the tags of the shapes that are no condition, and that such a shape's tree is none
 abbrev pub others : List ℕ
@@ -146,6 +129,12 @@ others-are a c n (Both x y) h = absurd (miss others 7 tt h)
 others-are a c n (Either x y) h = absurd (miss others 8 tt h)
 others-are a c n (Not x) h = absurd (miss others 9 tt h)
 others-are a c n Bad h = refl
+
+-- one condition and then another: y is what the first left of a row, kept as y′, and z what the other left of that
+in-turn : (then : Row → Maybe) (f g : Bool) (y y′ z : Row) → maybeBy f y′ ≡ maybeBy f y → maybeBy g z ≡ then y′ → maybeBy (f && g) z ≡ thenRow (maybeBy f y) then
+unfolding maybeBy thenRow
+in-turn then true g y y′ z e h = h ∙ ap (λ (m : Maybe). thenRow m then) e
+in-turn then false g y y′ z e h = refl
 
 -- two conditions, left and then right: each is decided on the row that is read; one row is narrowed by both in turn, and the other is what both leave of
 -- it together

@@ -2,7 +2,7 @@
 -- Assumes nothing.
 use Prim.Native.Nat.{ℕ}
 use mathlib.Core.Path.{_≡_}
-use mathlib.Core.Bool.{Bool, true, false, cond, _&&_}
+use mathlib.Core.Bool.{Bool, true, false, cond}
 use mathlib.Core.List.{List}
 use lib.Dec.{ltb}
 use lib.IntN.{ℤ, pos}
@@ -10,9 +10,7 @@ use lib.ListN.{replicate}
 use Rattle.interval.specs.Integer.{minZ, maxZ}
 use Rattle.interval.specs.declared.Interval.{Interval}
 use Rattle.words.specs.Words.{partOf}
-use Rattle.interval.specs.declared.Interval.the-variants.{None, Between}
-use Rattle.interval.specs.declared.Cuts.{Cuts}
-use Rattle.table.specs.Tree.{Arith, constant, input, variable, negation, binary, choice, noArith, Cond, arithAt}
+use Rattle.table.specs.Tree.{Cond, arithAt}
 use Rattle.analysis.specs.declared.Split.{Split}
 use Rattle.analysis.specs.Rows.{Row, rowOf, Maybe, none, some}
 use Rattle.analysis.specs.Analysis.{valueOf, decisionOf, narrowOf}
@@ -37,25 +35,6 @@ leftOf (some r) = r
 -- what a condition says of a row: its decision, and which of the two narrowings leave a row
 abbrev pub splitOf : Cond → Row → Split
 splitOf c r = record { decision = decisionOf c r; yes = isSome (narrowOf c true r); no = isSome (narrowOf c false r) }
-
--- ---- whether a branch of a choice by a comparison needs a row of its own
--- 'only variable nodes carry the cut back to the row'
-unfoldable pub carriesOf : Arith → Bool
-carriesOf (constant n z) = false
-carriesOf (input n a b) = false
-carriesOf (variable n v) = true
-carriesOf (negation n x) = false
-carriesOf (binary n op x y) = false
-carriesOf (choice n c x y) = false
-carriesOf (noArith n) = false
-
--- whether cuts leave something of both sides
-unfoldable pub somethingOf : Interval → Bool
-somethingOf None = false
-somethingOf (Between a b) = true
-
-abbrev pub leavesOf : Cuts → Bool
-leavesOf u = somethingOf (u .left) && somethingOf (u .right)
 
 -- ---- what is known of an array that is lent
 -- where it is told so, its words are those of the row that is read

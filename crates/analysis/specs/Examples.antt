@@ -1,8 +1,9 @@
 -- Worked examples of trees on a row, on the words of their nodes, in one table proved by computation: a quotient of document 01, a ring position by
--- document 02's request 1, and choices by its request 2. The starred trees of document 01 stand in the table of `checker/specs/Examples.antt`.
+-- document 02's request 1, choices by its request 2, and what is read by its request 3. The starred trees of document 01 stand in the table of `checker/specs/Examples.antt`.
 -- Assumes nothing.
 use Prim.Native.Nat.{ℕ}
 use mathlib.Core.Path.{_≡_, refl}
+use mathlib.Core.Bool.{Bool, true, false}
 use mathlib.Core.List.{List, [], _∷_, map}
 use lib.IntN.{ℤ, pos, negsuc}
 use Rattle.interval.specs.Integer.{minZ, maxZ, min4Z, max4Z, eqZ}
@@ -20,11 +21,13 @@ use Rattle.table.specs.Tree.{arithBy, condBy, arithF, arithAt, condAt}
 use Rattle.analysis.specs.declared.Alarm.{Alarm}
 use Rattle.analysis.specs.Rows.{Row, rowOf, rowIf, thenRow, putOf, meetAtOf, eachRest, each, joinRowsOf}
 use Rattle.analysis.specs.Alarms.{alarmOf, alarmIf, toldOf}
+use Rattle.analysis.specs.Reads.{reads}
 use Rattle.analysis.specs.Analysis.{rangeOn, alarmsOn, carryOf, carryBothOf, valueOf, alarmsOf}
 
--- what a tree gives on a row: its interval and alarms
+-- what a tree gives on a row: its interval and alarms; or whether it reads each of the first four variables
 pub data Answer : Type 0 where
   values : Interval → List Alarm → Answer
+  readers : List Bool → Answer
 
 pub record Example : Type 0 where
   pub got : Answer
@@ -132,6 +135,38 @@ ringByQuotient =
     ∷ pos 5 ∷ pos 0 ∷ pos 5 ∷ pos 0
     ∷ []
 
+-- not v < 1 ? -w : (5 < u ? 3 : 4), with v, w and u the variables 0, 1 and 2
+abbrev scattered : List ℤ
+scattered =
+    pos 2 ∷ pos 0 ∷ pos 0 ∷ pos 0
+    ∷ pos 0 ∷ pos 1 ∷ pos 0 ∷ pos 0
+    ∷ pos 16 ∷ pos 0 ∷ pos 1 ∷ pos 0
+    ∷ pos 22 ∷ pos 2 ∷ pos 0 ∷ pos 0
+    ∷ pos 2 ∷ pos 1 ∷ pos 0 ∷ pos 0
+    ∷ pos 3 ∷ pos 4 ∷ pos 0 ∷ pos 0
+    ∷ pos 2 ∷ pos 2 ∷ pos 0 ∷ pos 0
+    ∷ pos 0 ∷ pos 5 ∷ pos 0 ∷ pos 0
+    ∷ pos 16 ∷ pos 7 ∷ pos 6 ∷ pos 0
+    ∷ pos 0 ∷ pos 3 ∷ pos 0 ∷ pos 0
+    ∷ pos 0 ∷ pos 4 ∷ pos 0 ∷ pos 0
+    ∷ pos 8 ∷ pos 8 ∷ pos 9 ∷ pos 10
+    ∷ pos 8 ∷ pos 3 ∷ pos 5 ∷ pos 11
+    ∷ []
+
+-- 2 < w ? w : 3
+abbrev second : List ℤ
+second =
+    pos 0 ∷ pos 2 ∷ pos 0 ∷ pos 0
+    ∷ pos 2 ∷ pos 1 ∷ pos 0 ∷ pos 0
+    ∷ pos 16 ∷ pos 0 ∷ pos 1 ∷ pos 0
+    ∷ pos 2 ∷ pos 1 ∷ pos 0 ∷ pos 0
+    ∷ pos 0 ∷ pos 3 ∷ pos 0 ∷ pos 0
+    ∷ pos 8 ∷ pos 2 ∷ pos 3 ∷ pos 4
+    ∷ []
+
+abbrev reading : List ℤ → ℕ → Answer
+reading ns n = let t = arithAt ns n in readers (reads t 0 ∷ reads t 1 ∷ reads t 2 ∷ reads t 3 ∷ [])
+
 abbrev valued : List ℤ → ℕ → Row → Answer
 valued ns n r = values (valueOf (arithAt ns n) r) (alarmsOf (arithAt ns n) r)
 
@@ -148,11 +183,17 @@ table =
     -- 'a remainder written by quotient and product alarms for no cause', and one by node 9 doesn't: any offset on a ring of 12
     ∷ example (valued ringByQuotient 6 (row least greatest)) (values (Between least greatest) (alarmOf 6 1 ∷ []))
     ∷ example (valued ring 2 (row least greatest)) (values (Between (negsuc 10) (pos 11)) [])
+    -- a variable is read in a condition, under its opposite, in either branch and in a choice below
+    ∷ example (reading scattered 12) (readers (true ∷ true ∷ true ∷ false ∷ []))
+    ∷ example (reading guarded 7) (readers (true ∷ false ∷ false ∷ false ∷ []))
+    -- w is 0..5 in both rows, but the second lacks w's low end, so that nothing can be cut there: rows agree by their intervals only if they are paired
+    ∷ example (valued second 5 (rowOf (pos 0 ∷ pos 0 ∷ []) (pos 0 ∷ pos 5 ∷ []))) (values (Between (pos 3) (pos 5)) [])
+    ∷ example (valued second 5 (rowOf (pos 0 ∷ []) (pos 0 ∷ pos 5 ∷ []))) (values (Between (pos 0) (pos 5)) [])
     ∷ []
 
 abbrev pub Starred : Type 0
 Starred = map (λ (e : Example). e .got) table ≡ map (λ (e : Example). e .said) table
 
 pub starred : Starred
-unfolding table minZ maxZ min4Z max4Z eqZ onEnds meetOf joinOf hullOf belowOf aboveOf eitherPartOf largestOf remainderLowOf remainderHighOf remaindersOf uncutOf computedOf negateOf operateOf bothOf decideOf compareOf lowPastOf highPastOf withoutOf keptOf cutsAt cutsForOf cutsOf numberOf fourBy fourOf kept shapeBy shapeFrom arithBy condBy arithF arithAt condAt rowIf thenRow putOf meetAtOf eachRest each joinRowsOf alarmIf toldOf rangeOn alarmsOn carryOf carryBothOf valueOf
+unfolding table minZ maxZ min4Z max4Z eqZ onEnds meetOf joinOf hullOf belowOf aboveOf eitherPartOf largestOf remainderLowOf remainderHighOf remaindersOf uncutOf computedOf negateOf operateOf bothOf decideOf compareOf lowPastOf highPastOf withoutOf keptOf cutsAt cutsForOf cutsOf numberOf fourBy fourOf kept shapeBy shapeFrom arithBy condBy arithF arithAt condAt rowIf thenRow putOf meetAtOf eachRest each joinRowsOf alarmIf toldOf rangeOn alarmsOn carryOf carryBothOf valueOf reads
 starred = refl

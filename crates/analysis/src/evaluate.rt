@@ -1,19 +1,19 @@
 // The interval of arithmetic on a row, and what a condition says of a row, with their alarms marked in the same walk. They call each other, the node
 // number falling. A comparison's sides are evaluated once, on the row that is read, for its decision and for both rows that it cuts; they are evaluated
-// again, without alarms, only for a row that isn't a copy of that.
+// again, without alarms, only for a row that isn't a copy of that. No comparison makes a row: a choice makes one for each branch, a 'both' or 'either' one
+// for its right side. A point's row is read where it lies in the proposal (`value_on`, `sides_on`).
 use crate::Copies;
 use crate::Row;
 use crate::Split;
 use crate::alarms::mark_told;
-use crate::narrow::carries;
 use crate::narrow::carry_both;
-use crate::narrow::leaves;
 use crate::rows::clear_unless;
 use crate::rows::high_ends;
 use crate::rows::is_copy;
 use crate::rows::join_rows;
 use crate::rows::low_ends;
 use crate::rows::own;
+use crate::rows::range_in;
 use crate::rows::slot;
 use interval::Comparison;
 use interval::Decision;
@@ -33,10 +33,9 @@ ghost use mathlib.Core.Path.{_≡_};
 ghost use mathlib.Core.Bool.{true, false};
 ghost use Rattle.interval.specs.Compare.{decision, oppositeOf, compareOf};
 ghost use Rattle.table.specs.Tree.{choice, compare, both, either, arithAt, condAt};
-ghost use Rattle.interval.specs.Narrow.{cutsOf};
-ghost use Rattle.analysis.specs.Rows.{rowOf, ownOf, rowIf, maybeBy};
+ghost use Rattle.analysis.specs.Rows.{rowOf, ownOf, maybeBy};
 ghost use Rattle.analysis.specs.Alarms.{markedOf};
-ghost use Rattle.analysis.specs.Analysis.{valueOf, alarmsOf, decisionOf, condAlarmsOf, narrowOf, rangeOn, alarmsOn, carryBothOf};
+ghost use Rattle.analysis.specs.Analysis.{valueOf, alarmsOf, decisionOf, condAlarmsOf, narrowOf, rangeOn, alarmsOn};
 ghost use Rattle.analysis.specs.Arrays.{rowIn, leftOf, splitOf, CopyIf, KnownIf};
 
 // The interval of the arithmetic node n on a row in an array.
@@ -44,35 +43,21 @@ pub fn value<'a, 'b, 'c>(nodes: &'a [i32], n: usize, row: &'b Row, marks: &'c mu
     ensures { λ r. ⌜ r ≡ valueOf (arithAt (now (nodes .entry)) n) (rowIn (now (row .entry))) ⌝ }
     ensures { λ r. ⌜ now (marks .exit) ≡ markedOf (now (marks .entry)) (alarmsOf (arithAt (now (nodes .entry)) n) (rowIn (now (row .entry)))) ⌝ }
 {
-    value_on(nodes, n, low_ends(row), high_ends(row), marks)
-}
-
-// The same on the sixteen slots of a row that is read where it lies.
-pub fn value_on<'a, 'b, 'c>(
-    nodes: &'a [i32],
-    n: usize,
-    lows: &'b [i32],
-    highs: &'b [i32],
-    marks: &'c mut [u8],
-) -> Interval
-    ensures { λ r. ⌜ r ≡ valueOf (arithAt (now (nodes .entry)) n) (ownOf (rowOf (now (lows .entry)) (now (highs .entry)))) ⌝ }
-    ensures { λ r. ⌜ now (marks .exit) ≡ markedOf (now (marks .entry)) (alarmsOf (arithAt (now (nodes .entry)) n) (ownOf (rowOf (now (lows .entry)) (now (highs .entry))))) ⌝ }
-{
     let s = shape_at(nodes, n);
     match s {
         Shape::Constant(z) => Interval::Between(z, z),
         Shape::Input(a, b) => Interval::Between(a, max32(a, b)),
-        Shape::Variable(v) => slot(lows, highs, v),
+        Shape::Variable(v) => range_in(row, v),
         Shape::Negation(a) => {
-            let x = value_on(nodes, a, lows, highs, marks);
+            let x = value(nodes, a, row, marks);
             mark_told(marks, n, negate(x))
         }
         Shape::Binary(op, a, b) => {
-            let x = value_on(nodes, a, lows, highs, marks);
-            let y = value_on(nodes, b, lows, highs, marks);
+            let x = value(nodes, a, row, marks);
+            let y = value(nodes, b, row, marks);
             mark_told(marks, n, operate(op, x, y))
         }
-        Shape::Choice(c, a, b) => choose(nodes, c, a, b, lows, highs, marks),
+        Shape::Choice(c, a, b) => choose(nodes, c, a, b, row, marks),
         Shape::Compare(_, _, _) => Interval::Between(0, 0),
         Shape::Both(_, _) => Interval::Between(0, 0),
         Shape::Either(_, _) => Interval::Between(0, 0),
@@ -81,88 +66,25 @@ pub fn value_on<'a, 'b, 'c>(
     }
 }
 
-// A choice by the condition node c. The sides of a comparison are evaluated once, for its decision and for both branches.
+// A choice by the condition node c. Its branches' rows are made here, and the condition narrows them in their places.
 fn choose<'a, 'b, 'c>(
     nodes: &'a [i32],
     c: usize,
     a: usize,
     b: usize,
-    lows: &'b [i32],
-    highs: &'b [i32],
+    row: &'b Row,
     marks: &'c mut [u8],
 ) -> Interval
-    ensures { λ r. ⌜ r ≡ valueOf (choice 0 (condAt (now (nodes .entry)) c) (arithAt (now (nodes .entry)) a) (arithAt (now (nodes .entry)) b)) (ownOf (rowOf (now (lows .entry)) (now (highs .entry)))) ⌝ }
-    ensures { λ r. ⌜ now (marks .exit) ≡ markedOf (now (marks .entry)) (alarmsOf (choice 0 (condAt (now (nodes .entry)) c) (arithAt (now (nodes .entry)) a) (arithAt (now (nodes .entry)) b)) (ownOf (rowOf (now (lows .entry)) (now (highs .entry))))) ⌝ }
+    ensures { λ r. ⌜ r ≡ valueOf (choice 0 (condAt (now (nodes .entry)) c) (arithAt (now (nodes .entry)) a) (arithAt (now (nodes .entry)) b)) (rowIn (now (row .entry))) ⌝ }
+    ensures { λ r. ⌜ now (marks .exit) ≡ markedOf (now (marks .entry)) (alarmsOf (choice 0 (condAt (now (nodes .entry)) c) (arithAt (now (nodes .entry)) a) (arithAt (now (nodes .entry)) b)) (rowIn (now (row .entry)))) ⌝ }
 {
-    let s = shape_at(nodes, c);
-    match s {
-        Shape::Compare(k, l, r) => {
-            let x = value_on(nodes, l, lows, highs, marks);
-            let y = value_on(nodes, r, lows, highs, marks);
-            let d = compare(k, x, y);
-            let i = branch_by(d.yes, nodes, k, true, l, r, x, y, a, lows, highs, marks);
-            let j = branch_by(d.no, nodes, k, false, l, r, x, y, b, lows, highs, marks);
-            join(i, j)
-        }
-        _ => choose_of(nodes, c, a, b, lows, highs, marks),
-    }
-}
-
-// A branch of a choice by a comparison of the nodes a and b, whose intervals are x and y: the interval of the arithmetic node n where the branch is
-// taken, else none. It needs a row of its own only if a side is a variable, which alone carries a cut back.
-fn branch_by<'a, 'b, 'c>(
-    taken: bool,
-    nodes: &'a [i32],
-    k: Comparison,
-    wanted: bool,
-    a: usize,
-    b: usize,
-    x: Interval,
-    y: Interval,
-    n: usize,
-    lows: &'b [i32],
-    highs: &'b [i32],
-    marks: &'c mut [u8],
-) -> Interval
-    ensures { λ r. ⌜ r ≡ rangeOn (rowIf taken (carryBothOf (arithAt (now (nodes .entry)) a) (arithAt (now (nodes .entry)) b) (cutsOf k wanted x y) (ownOf (rowOf (now (lows .entry)) (now (highs .entry)))))) (valueOf (arithAt (now (nodes .entry)) n)) ⌝ }
-    ensures { λ r. ⌜ now (marks .exit) ≡ markedOf (now (marks .entry)) (alarmsOn (rowIf taken (carryBothOf (arithAt (now (nodes .entry)) a) (arithAt (now (nodes .entry)) b) (cutsOf k wanted x y) (ownOf (rowOf (now (lows .entry)) (now (highs .entry)))))) (alarmsOf (arithAt (now (nodes .entry)) n))) ⌝ }
-{
-    if !taken {
-        return Interval::None;
-    }
-    let u = cuts(k, wanted, x, y);
-    if carries(nodes, a) | carries(nodes, b) {
-        let mut row = own(lows, highs);
-        let some = carry_both(nodes, a, b, u, &mut row);
-        return branch(some, nodes, n, &row, marks);
-    }
-    if !leaves(u) {
-        return Interval::None;
-    }
-    value_on(nodes, n, lows, highs, marks)
-}
-
-// A choice by another condition, which is decided on a row in an array: its sides narrow both branches' rows in their places.
-fn choose_of<'a, 'b, 'c>(
-    nodes: &'a [i32],
-    c: usize,
-    a: usize,
-    b: usize,
-    lows: &'b [i32],
-    highs: &'b [i32],
-    marks: &'c mut [u8],
-) -> Interval
-    ensures { λ r. ⌜ r ≡ valueOf (choice 0 (condAt (now (nodes .entry)) c) (arithAt (now (nodes .entry)) a) (arithAt (now (nodes .entry)) b)) (ownOf (rowOf (now (lows .entry)) (now (highs .entry)))) ⌝ }
-    ensures { λ r. ⌜ now (marks .exit) ≡ markedOf (now (marks .entry)) (alarmsOf (choice 0 (condAt (now (nodes .entry)) c) (arithAt (now (nodes .entry)) a) (arithAt (now (nodes .entry)) b)) (ownOf (rowOf (now (lows .entry)) (now (highs .entry))))) ⌝ }
-{
-    let row = own(lows, highs);
-    let mut yes = row;
-    let mut no = row;
+    let mut yes = *row;
+    let mut no = *row;
     let copies = Copies {
         yes: true,
         no: true,
     };
-    let s = split(nodes, c, &row, marks, copies, &mut yes, &mut no);
+    let s = split(nodes, c, row, marks, copies, &mut yes, &mut no);
     let d = s.decision;
     let x = branch(d.yes & s.yes, nodes, a, &yes, marks);
     let y = branch(d.no & s.no, nodes, b, &no, marks);
@@ -373,6 +295,43 @@ fn no_condition() -> Split
         decision: d,
         yes: false,
         no: true,
+    }
+}
+
+// The interval of the arithmetic node n on the sixteen slots of a row that is read where it lies. Only a choice needs the row in an array.
+pub fn value_on<'a, 'b, 'c>(
+    nodes: &'a [i32],
+    n: usize,
+    lows: &'b [i32],
+    highs: &'b [i32],
+    marks: &'c mut [u8],
+) -> Interval
+    ensures { λ r. ⌜ r ≡ valueOf (arithAt (now (nodes .entry)) n) (ownOf (rowOf (now (lows .entry)) (now (highs .entry)))) ⌝ }
+    ensures { λ r. ⌜ now (marks .exit) ≡ markedOf (now (marks .entry)) (alarmsOf (arithAt (now (nodes .entry)) n) (ownOf (rowOf (now (lows .entry)) (now (highs .entry))))) ⌝ }
+{
+    let s = shape_at(nodes, n);
+    match s {
+        Shape::Constant(z) => Interval::Between(z, z),
+        Shape::Input(a, b) => Interval::Between(a, max32(a, b)),
+        Shape::Variable(v) => slot(lows, highs, v),
+        Shape::Negation(a) => {
+            let x = value_on(nodes, a, lows, highs, marks);
+            mark_told(marks, n, negate(x))
+        }
+        Shape::Binary(op, a, b) => {
+            let x = value_on(nodes, a, lows, highs, marks);
+            let y = value_on(nodes, b, lows, highs, marks);
+            mark_told(marks, n, operate(op, x, y))
+        }
+        Shape::Choice(_, _, _) => {
+            let row = own(lows, highs);
+            value(nodes, n, &row, marks)
+        }
+        Shape::Compare(_, _, _) => Interval::Between(0, 0),
+        Shape::Both(_, _) => Interval::Between(0, 0),
+        Shape::Either(_, _) => Interval::Between(0, 0),
+        Shape::Not(_) => Interval::Between(0, 0),
+        Shape::Bad => Interval::Between(0, 0),
     }
 }
 

@@ -8,34 +8,8 @@ use table::decode::shape_at;
 ghost use mathlib.Core.Path.{_≡_};
 ghost use Rattle.table.specs.Tree.{arithAt};
 ghost use Rattle.analysis.specs.Rows.{maybeBy};
-ghost use Rattle.analysis.specs.Arrays.{rowIn, carriesOf, leavesOf};
+ghost use Rattle.analysis.specs.Arrays.{rowIn};
 ghost use Rattle.analysis.specs.Analysis.{carryOf, carryBothOf};
-
-// Whether the arithmetic node n carries a cut back to the row: only a variable does.
-pub(crate) fn carries(nodes: &[i32], n: usize) -> bool
-    ensures { λ r. ⌜ r ≡ carriesOf (arithAt (now (nodes .entry)) n) ⌝ }
-{
-    let shape = shape_at(nodes, n);
-    match shape {
-        Shape::Variable(_) => true,
-        _ => false,
-    }
-}
-
-// Whether a comparison's cuts leave something of both sides.
-pub(crate) fn leaves(u: Cuts) -> bool
-    ensures { λ r. ⌜ r ≡ leavesOf u ⌝ }
-{
-    let left = u.left;
-    let right = u.right;
-    let Interval::Between(_, _) = left else {
-        return false;
-    };
-    let Interval::Between(_, _) = right else {
-        return false;
-    };
-    true
-}
 
 // The row, where the arithmetic node n is known to lie in s. Only a variable carries that back.
 fn carry<'a, 'b>(nodes: &'a [i32], n: usize, s: Interval, row: &'b mut Row) -> bool

@@ -8,7 +8,7 @@ use crate::read::read_words;
 use crate::read::word_room;
 use analysis::Row;
 use analysis::evaluate::sides;
-use analysis::evaluate::value;
+use analysis::evaluate::value_on;
 use analysis::rows::high_ends;
 use analysis::rows::low_ends;
 use analysis::rows::own;
@@ -95,12 +95,12 @@ fn print_sides(mode: usize, nodes: &[i32], node: usize, row: &Row, n: usize) {
 }
 
 fn answer<'a>(mode: usize, node: usize, nodes: &'a [i32], lows: &'a [i32], highs: &'a [i32]) {
-    let row = own(lows, highs);
     if mode == 0 {
         let mut marks = mark_room();
-        print_value(value(nodes, node, &row, &mut marks));
+        print_value(value_on(nodes, node, lows, highs, &mut marks));
         print_marks(&marks);
     } else {
+        let row = own(lows, highs);
         print_sides(mode, nodes, node, &row, lows.len());
     }
     io::write_all(1, b"\n");

@@ -36,14 +36,6 @@ pub or-cases : {X : Type 0} (a b : Bool) → a || b ≡ true → (a ≡ true →
 or-cases true b e f g = f refl
 or-cases false b e f g = g e
 
-pub or-fails-left : (a b : Bool) → a || b ≡ false → a ≡ false
-or-fails-left true b e = e
-or-fails-left false b e = refl
-
-pub or-fails-right : (a b : Bool) → a || b ≡ false → b ≡ false
-or-fails-right true b e = clash e
-or-fails-right false b e = e
-
 -- ---- a test that a call computed, and the branch on it
 pub holds : {r b : Bool} → r ≡ b → r ≡ true → b ≡ true
 holds e q = sym e ∙ q

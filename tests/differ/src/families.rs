@@ -1,7 +1,8 @@
-//! Families of cases: for each sentence of document 01 and of requests 1 and 2
+//! Families of cases: for each sentence of document 01 and of requests 1 to 3
 //! some with the answer written out, and drawn ones whose answer is the peer's.
 //! Whole answers are compared, and every word of a lent slice.
 
+mod agreement;
 mod assigned;
 mod checks;
 mod choices;
@@ -34,6 +35,7 @@ const FAMILIES: &[(&str, Family)] = &[
     ("trees", trees::run),
     ("remainders", remainders::run),
     ("choices", choices::run),
+    ("agreement", agreement::run),
     ("tower", tower::run),
 ];
 

@@ -2,9 +2,11 @@
 //! the possible answers of a condition and the rows that it leaves for each,
 //! and the alarms on the way.
 
+mod reads;
 mod row;
 mod split;
 
+pub use reads::reads;
 pub use row::{Ends, Row};
 pub use split::{condition, narrow, split, Side};
 

@@ -35,6 +35,6 @@ pub fn run(_bin: &Path, tally: &mut Tally) {
 fn draw(random: &mut Random) -> Assigned {
     let values = [drawn::word(random), drawn::word(random)];
     let spans = values.map(|value| drawn::around(random, value));
-    let tree = drawn::choice_of(random, 2, 2);
+    let tree = drawn::choice_of(random, &[0, 1], 2);
     Assigned { tree, spans, values }
 }

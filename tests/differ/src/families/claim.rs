@@ -134,10 +134,10 @@ fn guarded_table(random: &mut Random) -> Vec<i32> {
         let low = random.below(7) as i32 - 5;
         points.extend([
             assign(own, input(low, low + random.below(12) as i32), first + 1),
-            assign(other, drawn::choice_of(random, 2, 1), first + 2),
-            test(drawn::condition_of(random, 2, 1), first + 3, first),
+            assign(other, drawn::choice_of(random, &[0, 1], 1), first + 2),
+            test(drawn::condition_of(random, &[0, 1], 1), first + 3, first),
             lock(0, first + 4),
-            assign(own, drawn::choice_of(random, 2, 2), first + 5),
+            assign(own, drawn::choice_of(random, &[0, 1], 2), first + 5),
             unlock(0, first),
         ]);
     }

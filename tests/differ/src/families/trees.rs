@@ -3,7 +3,7 @@
 //! the condition is wanted true or false.
 
 mod by_hand;
-mod drawn;
+pub mod drawn;
 
 use super::choices::{branches, LEAST};
 use super::Tally;
@@ -25,11 +25,11 @@ pub enum Mode {
 /// What is asked of a node on a row, and the line that is printed of it, if
 /// somebody wrote it out.
 pub struct Case {
-    mode: Mode,
-    node: i32,
-    nodes: Vec<[i32; 4]>,
-    row: Vec<Ends>,
-    answer: Option<String>,
+    pub mode: Mode,
+    pub node: i32,
+    pub nodes: Vec<[i32; 4]>,
+    pub row: Vec<Ends>,
+    pub answer: Option<String>,
 }
 
 /// What is said of a case whose row has ends in the wrong order.
@@ -39,15 +39,12 @@ pub fn run(bin: &Path, tally: &mut Tally) {
     let mut cases = by_hand::cases();
     cases.extend(drawn::cases(24_000, 20261116));
     cases.extend(drawn::choices(36_000, 20261121));
-    let words = cases.iter().flat_map(Case::words);
-    let printed = asked(&bin.join("cases_test"), words.flat_map(i32::to_le_bytes).collect());
-    let mut lines = printed.lines();
-    for case in &cases {
+    let lines = answers(bin, tally, &cases.iter().collect::<Vec<_>>());
+    for (case, line) in cases.iter().zip(&lines) {
         tally.count(case.sort());
         if case.answer.is_none() {
             case.reached().into_iter().for_each(|name| tally.count(name));
         }
-        let line = lines.next().unwrap_or("nothing");
         tally.case(case.differences(line), || format!("{:?}", case.words()));
     }
     for mode in ["value", "decision", "narrowed no", "narrowed yes"] {
@@ -56,14 +53,24 @@ pub fn run(bin: &Path, tally: &mut Tally) {
     for name in branches::names() {
         tally.expect(name, LEAST);
     }
-    if let Some(line) = lines.next() {
-        tally.case(vec![format!("printed once more: {line}")], || "all cases".to_string());
-    }
 }
 
 /// The cases whose answers are written out: their words and their lines.
 pub fn given() -> Vec<(Vec<i32>, String)> {
     by_hand::cases().into_iter().filter_map(|case| Some((case.words(), case.answer?))).collect()
+}
+
+/// The line that the program `cases_test` prints of each case. One more than
+/// there are cases is wrong.
+pub fn answers(bin: &Path, tally: &mut Tally, cases: &[&Case]) -> Vec<String> {
+    let words = cases.iter().flat_map(|case| case.words());
+    let printed = asked(&bin.join("cases_test"), words.flat_map(i32::to_le_bytes).collect());
+    let mut lines: Vec<String> = printed.lines().map(str::to_string).collect();
+    if let Some(line) = lines.get(cases.len()) {
+        tally.case(vec![format!("printed once more: {line}")], || "all cases".to_string());
+    }
+    lines.resize(cases.len(), "nothing".to_string());
+    lines
 }
 
 /// What a program prints of its input. A program may answer before it has read
@@ -81,7 +88,7 @@ pub fn asked(program: &Path, bytes: Vec<u8>) -> String {
 }
 
 impl Case {
-    fn of(mode: Mode, tree: &Tree, row: &[Ends], answer: Option<String>) -> Case {
+    pub fn of(mode: Mode, tree: &Tree, row: &[Ends], answer: Option<String>) -> Case {
         let mut nodes = Vec::new();
         let node = flatten(tree, &mut nodes);
         Case { mode, node, nodes, row: row.to_vec(), answer }
@@ -96,7 +103,7 @@ impl Case {
     }
 
     /// As the program reads it.
-    fn words(&self) -> Vec<i32> {
+    pub fn words(&self) -> Vec<i32> {
         let mode = match self.mode {
             Mode::Value => 0,
             Mode::Decision => 1,
@@ -120,7 +127,7 @@ impl Case {
 
     /// How the program's line and the peer's differ from the answer, or from
     /// each other.
-    fn differences(&self, line: &str) -> Vec<String> {
+    pub fn differences(&self, line: &str) -> Vec<String> {
         let by_peer = self.by_peer();
         let wanted = self.answer.as_ref().unwrap_or(&by_peer);
         let said = [("the program", line), ("the peer", &by_peer)];
@@ -131,12 +138,12 @@ impl Case {
     /// What its choices come to, by the peer's analysis.
     fn reached(&self) -> Vec<&'static str> {
         let row = Lent { lows: &self.lows(), highs: &self.highs() }.row();
-        branches::reached(&self.decoded(), self.node as u16, &row)
+        branches::reached(&decoded(&self.nodes), self.node as u16, &row)
     }
 
     /// The line that the peer's analysis gives.
-    fn by_peer(&self) -> String {
-        let (nodes, node) = (self.decoded(), self.node as u16);
+    pub fn by_peer(&self) -> String {
+        let (nodes, node) = (decoded(&self.nodes), self.node as u16);
         let (lows, highs) = (self.lows(), self.highs());
         let mut row = Lent { lows: &lows, highs: &highs }.row();
         let mut raised = Raised::default();
@@ -158,26 +165,26 @@ impl Case {
         };
         raised.pairs().fold(said, |line, [node, kind]| format!("{line} alarm {node} {kind}"))
     }
+}
 
-    /// The nodes as the peer has them, of a table in which each that is no
-    /// child is a point's, so that each is used once. It has all variables, since
-    /// a formula may read past the row.
-    fn decoded(&self) -> Vec<Node> {
-        let mut child = vec![false; self.nodes.len()];
-        for node in &self.nodes {
-            for &field in &node[1..=operands(node[0]).len()] {
-                child[field as usize] = true;
-            }
+/// The nodes as the peer has them, of a table in which each that is no child is
+/// a point's, so that each is used once. It has all variables, since a formula
+/// may read past the row.
+pub fn decoded(nodes: &[[i32; 4]]) -> Vec<Node> {
+    let mut child = vec![false; nodes.len()];
+    for node in nodes {
+        for &field in &node[1..=operands(node[0]).len()] {
+            child[field as usize] = true;
         }
-        let point = |node: usize| match self.nodes[node][0] {
-            0..16 => [1, 0, node as i32, 0],
-            _ => [2, node as i32, 0, 0],
-        };
-        let tops = (0..child.len()).filter(|&node| !child[node]);
-        let points: Vec<[i32; 4]> = tops.map(point).collect();
-        let words = table_of_nodes(&[points.len() as i32], &[0; 16], 0, &points, &self.nodes);
-        Table::decode(&words).expect("a valid table").nodes
     }
+    let point = |node: usize| match nodes[node][0] {
+        0..16 => [1, 0, node as i32, 0],
+        _ => [2, node as i32, 0, 0],
+    };
+    let tops = (0..child.len()).filter(|&node| !child[node]);
+    let points: Vec<[i32; 4]> = tops.map(point).collect();
+    let words = table_of_nodes(&[points.len() as i32], &[0; 16], 0, &points, nodes);
+    Table::decode(&words).expect("a valid table").nodes
 }
 
 #[derive(Clone, Copy, PartialEq, Eq)]

@@ -19,15 +19,14 @@ pub fn around(random: &mut Random, value: i32) -> Ends {
     (value.saturating_sub(below), value.saturating_add(above))
 }
 
-/// A choice of variables below that number, with choices in it down to that
-/// depth.
-pub fn choice_of(random: &mut Random, variables: usize, depth: usize) -> Tree {
+/// A choice of those variables, with choices in it down to that depth.
+pub fn choice_of(random: &mut Random, variables: &[i32], depth: usize) -> Tree {
     let mut drawing = Drawing::new(random, variables);
     drawing.choice(depth)
 }
 
 /// A condition in which a choice is compared.
-pub fn condition_of(random: &mut Random, variables: usize, depth: usize) -> Tree {
+pub fn condition_of(random: &mut Random, variables: &[i32], depth: usize) -> Tree {
     let mut drawing = Drawing::new(random, variables);
     let asked = drawing.comparison_of_choice(depth);
     match drawing.random.below(6) {
@@ -41,19 +40,19 @@ pub fn condition_of(random: &mut Random, variables: usize, depth: usize) -> Tree
 
 struct Drawing<'a> {
     random: &'a mut Random,
-    variables: usize,
+    variables: &'a [i32],
     /// The variable that is mostly read.
     tested: i32,
 }
 
-impl Drawing<'_> {
-    fn new(random: &mut Random, variables: usize) -> Drawing<'_> {
-        let tested = random.below(variables) as i32;
+impl<'a> Drawing<'a> {
+    fn new(random: &'a mut Random, variables: &'a [i32]) -> Drawing<'a> {
+        let tested = random.pick(variables);
         Drawing { random, variables, tested }
     }
 
     fn variable(&mut self) -> Tree {
-        let other = self.random.below(self.variables) as i32;
+        let other = self.random.pick(self.variables);
         var(if self.random.chance(80) { self.tested } else { other })
     }
 

@@ -27,8 +27,8 @@ pub fn choices(count: usize, seed: u64) -> Vec<Case> {
     let case = |mode| {
         let row: Vec<Ends> = (0..2).map(|_| span(&mut random, true)).collect();
         let tree = match mode {
-            Mode::Value => drawn::choice_of(&mut random, 2, 3),
-            _ => drawn::condition_of(&mut random, 2, 3),
+            Mode::Value => drawn::choice_of(&mut random, &[0, 1], 3),
+            _ => drawn::condition_of(&mut random, &[0, 1], 3),
         };
         Case::of(mode, &tree, &row, None)
     };
@@ -39,10 +39,23 @@ fn case(random: &mut Random, mode: Mode) -> Case {
     let small = random.chance(40);
     let row: Vec<Ends> = (0..random.between(1, 4)).map(|_| span(random, small)).collect();
     let sort = if mode == Mode::Value { Sort::Arithmetic } else { Sort::Condition };
+    let variables: Vec<i32> = (0..row.len() as i32).collect();
+    let (nodes, node) = tree(random, &variables, sort, small);
+    Case { mode, node, nodes, row, answer: None }
+}
+
+/// Nodes of any kinds that read some of the variables, and the number of the
+/// one that is asked for; not all of the others need be in its tree.
+pub fn tree(
+    random: &mut Random,
+    variables: &[i32],
+    sort: Sort,
+    small: bool,
+) -> (Vec<[i32; 4]>, i32) {
     let kinds: &[i32] = if sort == Sort::Condition && random.chance(50) { &PLAIN } else { &ANY };
     let mut forest = Forest::default();
-    let node = forest.grow(random, row.len(), sort, small, kinds);
-    Case { mode, node: node as i32, nodes: forest.nodes, row, answer: None }
+    let node = forest.grow(random, variables, sort, small, kinds);
+    (forest.nodes, node as i32)
 }
 
 fn end(random: &mut Random, small: bool) -> i32 {
@@ -55,6 +68,11 @@ fn end(random: &mut Random, small: bool) -> i32 {
 
 fn ordered((a, b): Ends) -> Ends {
     (a.min(b), a.max(b))
+}
+
+/// Ends in order.
+pub fn interval(random: &mut Random, small: bool) -> Ends {
+    ordered((end(random, small), end(random, small)))
 }
 
 fn span(random: &mut Random, small: bool) -> Ends {
@@ -90,7 +108,7 @@ impl Forest {
     fn grow(
         &mut self,
         random: &mut Random,
-        variables: usize,
+        variables: &[i32],
         sort: Sort,
         small: bool,
         kinds: &[i32],
@@ -121,12 +139,12 @@ impl Forest {
         kinds.iter().copied().filter(enough).collect()
     }
 
-    fn leaf(&mut self, random: &mut Random, variables: usize, small: bool) {
-        let (low, high) = ordered((end(random, small), end(random, small)));
+    fn leaf(&mut self, random: &mut Random, variables: &[i32], small: bool) {
+        let (low, high) = interval(random, small);
         let node = match random.below(6) {
             0 => [0, low, 0, 0],
             1 => [1, low, high, 0],
-            _ => [2, random.below(variables) as i32, 0, 0],
+            _ => [2, random.pick(variables), 0, 0],
         };
         self.push(node, 1);
     }

@@ -1,70 +1,50 @@
 -- The functions of `analysis::evaluate` that call each other meet their contracts: at each shape the calls on the children, whose numbers are smaller,
 -- and the operation that joins their results are one step of the tree's definition, the marks are made in the order of its alarms, and each row is
--- what the call before left in its place. Five times the node's number falls at each call, with up to four more for the functions that call others on
+-- what the call before left in its place. Four times the node's number falls at each call, with one or two more for the functions that call others on
 -- their own nodes.
 -- Assumes nothing.
-use mathlib.Core.Path.{_≡_, refl, sym, _∙_}
+use mathlib.Core.Path.{refl, sym, _∙_}
 use native.Mathlib.Omega.{arith}
-use lib.ListN.{length}
 use Rattle.interval.proofs.MachineArithmetic.{handed32}
 use Rattle.words.proofs.Signed.{read-back}
 use Rattle.table.specs.Tree.{arithBy}
 use Rattle.table.proofs.TreeLaws.{children-of}
-use Rattle.analysis.proofs.RowCodeLaws.{own-again}
-use Rattle.analysis.proofs.NarrowCodeLaws.{both-uncarried}
-use Rattle.analysis.proofs.WalkLaws.{branch-taken, branch-left-out, constant-valued, input-valued, variable-valued, negation-valued, binary-valued, choice-valued, chosen, chosen-by, left-out, taken-on, no-value, both-splits, either-splits, cut-leaves, compare-splits, both-node-splits, either-node-splits, not-splits, no-splits, copy-known}
+use Rattle.analysis.proofs.WalkLaws.{branch-taken, branch-left-out, constant-valued, input-valued, variable-valued, negation-valued, binary-valued, choice-valued, chosen, no-value, both-splits, either-splits, cut-leaves, compare-splits, both-node-splits, either-node-splits, not-splits, no-splits, copy-known}
 use Prim.Native.Nat.{ℕ, _+_, _*_, _<_, max}
 use borrow.Author.Needs.{needs}
-use borrow.Author.Tests.{not-true, not-false}
-use denote.Ref.{now}
-use Rattle.words.proofs.Bools.{fails-not, holds-not}
 use borrow.Fn.Kinds.{In}
 use borrow.Fn.PlainCycle.{Measures, is, falls, and}
 use Rattle.analysis.proofs.evaluate.branch.Reads as branch
 use Rattle.analysis.proofs.evaluate.branch.Kinds as branch-kinds
-use Rattle.analysis.proofs.evaluate.+branch+branch_by+choose+choose_of+cut+split+split_both+split_by+split_either+value+value_on.Lts-branch as branch-lts
-use Rattle.analysis.proofs.evaluate.branch_by.Reads as branch-by
-use Rattle.analysis.proofs.evaluate.branch_by.Kinds as branch-by-kinds
-use Rattle.analysis.proofs.evaluate.+branch+branch_by+choose+choose_of+cut+split+split_both+split_by+split_either+value+value_on.Lts-branch_by as branch-by-lts
+use Rattle.analysis.proofs.evaluate.+branch+choose+cut+split+split_both+split_by+split_either+value.Lts-branch as branch-lts
 use Rattle.analysis.proofs.evaluate.choose.Reads as choose
 use Rattle.analysis.proofs.evaluate.choose.Kinds as choose-kinds
-use Rattle.analysis.proofs.evaluate.+branch+branch_by+choose+choose_of+cut+split+split_both+split_by+split_either+value+value_on.Lts-choose as choose-lts
-use Rattle.analysis.proofs.evaluate.choose_of.Reads as choose-of
-use Rattle.analysis.proofs.evaluate.choose_of.Kinds as choose-of-kinds
-use Rattle.analysis.proofs.evaluate.+branch+branch_by+choose+choose_of+cut+split+split_both+split_by+split_either+value+value_on.Lts-choose_of as choose-of-lts
+use Rattle.analysis.proofs.evaluate.+branch+choose+cut+split+split_both+split_by+split_either+value.Lts-choose as choose-lts
 use Rattle.analysis.proofs.evaluate.cut.Reads as cut
 use Rattle.analysis.proofs.evaluate.cut.Kinds as cut-kinds
-use Rattle.analysis.proofs.evaluate.+branch+branch_by+choose+choose_of+cut+split+split_both+split_by+split_either+value+value_on.Lts-cut as cut-lts
+use Rattle.analysis.proofs.evaluate.+branch+choose+cut+split+split_both+split_by+split_either+value.Lts-cut as cut-lts
 use Rattle.analysis.proofs.evaluate.split.Reads as split
 use Rattle.analysis.proofs.evaluate.split.Kinds as split-kinds
-use Rattle.analysis.proofs.evaluate.+branch+branch_by+choose+choose_of+cut+split+split_both+split_by+split_either+value+value_on.Lts-split as split-lts
+use Rattle.analysis.proofs.evaluate.+branch+choose+cut+split+split_both+split_by+split_either+value.Lts-split as split-lts
 use Rattle.analysis.proofs.evaluate.split_both.Reads as split-both
 use Rattle.analysis.proofs.evaluate.split_both.Kinds as split-both-kinds
-use Rattle.analysis.proofs.evaluate.+branch+branch_by+choose+choose_of+cut+split+split_both+split_by+split_either+value+value_on.Lts-split_both as split-both-lts
+use Rattle.analysis.proofs.evaluate.+branch+choose+cut+split+split_both+split_by+split_either+value.Lts-split_both as split-both-lts
 use Rattle.analysis.proofs.evaluate.split_by.Reads as split-by
 use Rattle.analysis.proofs.evaluate.split_by.Kinds as split-by-kinds
-use Rattle.analysis.proofs.evaluate.+branch+branch_by+choose+choose_of+cut+split+split_both+split_by+split_either+value+value_on.Lts-split_by as split-by-lts
+use Rattle.analysis.proofs.evaluate.+branch+choose+cut+split+split_both+split_by+split_either+value.Lts-split_by as split-by-lts
 use Rattle.analysis.proofs.evaluate.split_either.Reads as split-either
 use Rattle.analysis.proofs.evaluate.split_either.Kinds as split-either-kinds
-use Rattle.analysis.proofs.evaluate.+branch+branch_by+choose+choose_of+cut+split+split_both+split_by+split_either+value+value_on.Lts-split_either as split-either-lts
+use Rattle.analysis.proofs.evaluate.+branch+choose+cut+split+split_both+split_by+split_either+value.Lts-split_either as split-either-lts
 use Rattle.analysis.proofs.evaluate.value.Reads as value
 use Rattle.analysis.proofs.evaluate.value.Kinds as value-kinds
-use Rattle.analysis.proofs.evaluate.+branch+branch_by+choose+choose_of+cut+split+split_both+split_by+split_either+value+value_on.Lts-value as value-lts
-use Rattle.analysis.proofs.evaluate.value_on.Reads as value-on
-use Rattle.analysis.proofs.evaluate.value_on.Kinds as value-on-kinds
-use Rattle.analysis.proofs.evaluate.+branch+branch_by+choose+choose_of+cut+split+split_both+split_by+split_either+value+value_on.Lts-value_on as value-on-lts
+use Rattle.analysis.proofs.evaluate.+branch+choose+cut+split+split_both+split_by+split_either+value.Lts-value as value-lts
 use Rattle.analysis.proofs.alarms.mark_told.Reads as mark-told-reads
 use Rattle.analysis.proofs.evaluate.no_condition.Reads as no-condition-reads
 use Rattle.analysis.proofs.evaluate.opposed.Reads as opposed-reads
-use Rattle.analysis.proofs.narrow.carries.Reads as carries-reads
 use Rattle.analysis.proofs.narrow.carry_both.Reads as carry-both-reads
-use Rattle.analysis.proofs.narrow.leaves.Reads as leaves-reads
-use Rattle.analysis.proofs.rows.high_ends.Reads as high-ends-reads
 use Rattle.analysis.proofs.rows.is_copy.Reads as is-copy-reads
 use Rattle.analysis.proofs.rows.join_rows.Reads as join-rows-reads
-use Rattle.analysis.proofs.rows.low_ends.Reads as low-ends-reads
-use Rattle.analysis.proofs.rows.own.Reads as own-reads
-use Rattle.analysis.proofs.rows.slot.Reads as slot-reads
+use Rattle.analysis.proofs.rows.range_in.Reads as range-in-reads
 use Rattle.interval.proofs.arithmetic.negate.Reads as negate-reads
 use Rattle.interval.proofs.arithmetic.operate.Reads as operate-reads
 use Rattle.interval.proofs.compare.both.Reads as both-reads
@@ -74,45 +54,36 @@ use Rattle.interval.proofs.integer.max32.Reads as max32-reads
 use Rattle.interval.proofs.lattice.join.Reads as join-reads
 use Rattle.interval.proofs.narrow.cuts.Reads as cuts-reads
 use Rattle.table.proofs.decode.shape_at.Reads as shape-at-reads
-use Rattle.analysis.proofs.evaluate.+branch+branch_by+choose+choose_of+cut+split+split_both+split_by+split_either+value+value_on.{
+use Rattle.analysis.proofs.evaluate.+branch+choose+cut+split+split_both+split_by+split_either+value.{
   statement,
 }
-use Rattle.analysis.proofs.evaluate.+branch+branch_by+choose+choose_of+cut+split+split_both+split_by+split_either+value+value_on.Tie.{
+use Rattle.analysis.proofs.evaluate.+branch+choose+cut+split+split_both+split_by+split_either+value.Tie.{
   close,
 }
 
 abbrev μ-branch : Measures 3 branch-kinds.ps ℕ
-μ-branch κs a = 5 * a .1 .1 .0 + 2
-
-abbrev μ-branch-by : Measures 3 branch-by-kinds.ps ℕ
-μ-branch-by κs a = 5 * a .1 .1 .1 .1 .1 .1 .1 .1 .0 + 3
+μ-branch κs a = 4 * a .1 .1 .0 + 1
 
 abbrev μ-choose : Measures 3 choose-kinds.ps ℕ
-μ-choose κs a = 5 * max (a .1 .0) (max (a .1 .1 .0) (a .1 .1 .1 .0)) + 4
-
-abbrev μ-choose-of : Measures 3 choose-of-kinds.ps ℕ
-μ-choose-of κs a = 5 * max (a .1 .0) (max (a .1 .1 .0) (a .1 .1 .1 .0)) + 3
+μ-choose κs a = 4 * max (a .1 .0) (max (a .1 .1 .0) (a .1 .1 .1 .0)) + 2
 
 abbrev μ-cut : Measures 2 cut-kinds.ps ℕ
-μ-cut κs a = 5 * max (a .1 .1 .1 .0) (a .1 .1 .1 .1 .0) + 2
+μ-cut κs a = 4 * max (a .1 .1 .1 .0) (a .1 .1 .1 .1 .0) + 1
 
 abbrev μ-split : Measures 5 split-kinds.ps ℕ
-μ-split κs a = 5 * a .1 .0
+μ-split κs a = 4 * a .1 .0
 
 abbrev μ-split-both : Measures 5 split-both-kinds.ps ℕ
-μ-split-both κs a = 5 * max (a .1 .0) (a .1 .1 .0) + 2
+μ-split-both κs a = 4 * max (a .1 .0) (a .1 .1 .0) + 2
 
 abbrev μ-split-by : Measures 3 split-by-kinds.ps ℕ
-μ-split-by κs a = 5 * max (a .1 .1 .0) (a .1 .1 .1 .0) + 3
+μ-split-by κs a = 4 * max (a .1 .1 .0) (a .1 .1 .1 .0) + 2
 
 abbrev μ-split-either : Measures 5 split-either-kinds.ps ℕ
-μ-split-either κs a = 5 * max (a .1 .0) (a .1 .1 .0) + 2
+μ-split-either κs a = 4 * max (a .1 .0) (a .1 .1 .0) + 2
 
 abbrev μ-value : Measures 3 value-kinds.ps ℕ
-μ-value κs a = 5 * a .1 .0 + 1
-
-abbrev μ-value-on : Measures 3 value-on-kinds.ps ℕ
-μ-value-on κs a = 5 * a .1 .0
+μ-value κs a = 4 * a .1 .0
 
 abbrev branch-at : ℕ → In 3 branch-kinds.ps
 branch-at t = and 3 branch-kinds.ps (is 3 branch-kinds.ps μ-branch t) branch.Pre
@@ -120,23 +91,11 @@ branch-at t = and 3 branch-kinds.ps (is 3 branch-kinds.ps μ-branch t) branch.Pr
 abbrev branch-below : ℕ → In 3 branch-kinds.ps
 branch-below t = and 3 branch-kinds.ps (falls 3 branch-kinds.ps _<_ μ-branch t) branch.Pre
 
-abbrev branch-by-at : ℕ → In 3 branch-by-kinds.ps
-branch-by-at t = and 3 branch-by-kinds.ps (is 3 branch-by-kinds.ps μ-branch-by t) branch-by.Pre
-
-abbrev branch-by-below : ℕ → In 3 branch-by-kinds.ps
-branch-by-below t = and 3 branch-by-kinds.ps (falls 3 branch-by-kinds.ps _<_ μ-branch-by t) branch-by.Pre
-
 abbrev choose-at : ℕ → In 3 choose-kinds.ps
 choose-at t = and 3 choose-kinds.ps (is 3 choose-kinds.ps μ-choose t) choose.Pre
 
 abbrev choose-below : ℕ → In 3 choose-kinds.ps
 choose-below t = and 3 choose-kinds.ps (falls 3 choose-kinds.ps _<_ μ-choose t) choose.Pre
-
-abbrev choose-of-at : ℕ → In 3 choose-of-kinds.ps
-choose-of-at t = and 3 choose-of-kinds.ps (is 3 choose-of-kinds.ps μ-choose-of t) choose-of.Pre
-
-abbrev choose-of-below : ℕ → In 3 choose-of-kinds.ps
-choose-of-below t = and 3 choose-of-kinds.ps (falls 3 choose-of-kinds.ps _<_ μ-choose-of t) choose-of.Pre
 
 abbrev cut-at : ℕ → In 2 cut-kinds.ps
 cut-at t = and 2 cut-kinds.ps (is 2 cut-kinds.ps μ-cut t) cut.Pre
@@ -183,23 +142,11 @@ value-at t = and 3 value-kinds.ps (is 3 value-kinds.ps μ-value t) value.Pre
 abbrev value-below : ℕ → In 3 value-kinds.ps
 value-below t = and 3 value-kinds.ps (falls 3 value-kinds.ps _<_ μ-value t) value.Pre
 
-abbrev value-on-at : ℕ → In 3 value-on-kinds.ps
-value-on-at t = and 3 value-on-kinds.ps (is 3 value-on-kinds.ps μ-value-on t) value-on.Pre
-
-abbrev value-on-below : ℕ → In 3 value-on-kinds.ps
-value-on-below t = and 3 value-on-kinds.ps (falls 3 value-on-kinds.ps _<_ μ-value-on t) value-on.Pre
-
 abbrev branch-calls : ℕ → branch-lts.Claims
 branch-calls t = (value-below t, value.Post)
 
-abbrev branch-by-calls : ℕ → branch-by-lts.Claims
-branch-by-calls t = (cuts-reads.Asked, cuts-reads.Learnt, carries-reads.Asked, carries-reads.Learnt, own-reads.Asked, own-reads.Learnt, carry-both-reads.Asked, carry-both-reads.Learnt, branch-below t, branch.Post, leaves-reads.Asked, leaves-reads.Learnt, value-on-below t, value-on.Post)
-
 abbrev choose-calls : ℕ → choose-lts.Claims
-choose-calls t = (shape-at-reads.Asked, shape-at-reads.Learnt, value-on-below t, value-on.Post, compare-reads.Asked, compare-reads.Learnt, branch-by-below t, branch-by.Post, join-reads.Asked, join-reads.Learnt, choose-of-below t, choose-of.Post)
-
-abbrev choose-of-calls : ℕ → choose-of-lts.Claims
-choose-of-calls t = (own-reads.Asked, own-reads.Learnt, split-below t, split.Post, branch-below t, branch.Post, join-reads.Asked, join-reads.Learnt)
+choose-calls t = (split-below t, split.Post, branch-below t, branch.Post, join-reads.Asked, join-reads.Learnt)
 
 abbrev cut-calls : ℕ → cut-lts.Claims
 cut-calls t = (cuts-reads.Asked, cuts-reads.Learnt, carry-both-reads.Asked, carry-both-reads.Learnt, value-below t, value.Post)
@@ -217,94 +164,27 @@ abbrev split-either-calls : ℕ → split-either-lts.Claims
 split-either-calls t = (split-below t, split.Post, is-copy-reads.Asked, is-copy-reads.Learnt, join-rows-reads.Asked, join-rows-reads.Learnt, either-reads.Asked, either-reads.Learnt)
 
 abbrev value-calls : ℕ → value-lts.Claims
-value-calls t = (low-ends-reads.Asked, low-ends-reads.Learnt, high-ends-reads.Asked, high-ends-reads.Learnt, value-on-below t, value-on.Post)
+value-calls t = (shape-at-reads.Asked, shape-at-reads.Learnt, max32-reads.Asked, max32-reads.Learnt, range-in-reads.Asked, range-in-reads.Learnt, value-below t, value.Post, negate-reads.Asked, negate-reads.Learnt, mark-told-reads.Asked, mark-told-reads.Learnt, operate-reads.Asked, operate-reads.Learnt, choose-below t, choose.Post)
 
-abbrev value-on-calls : ℕ → value-on-lts.Claims
-value-on-calls t = (shape-at-reads.Asked, shape-at-reads.Learnt, max32-reads.Asked, max32-reads.Learnt, slot-reads.Asked, slot-reads.Learnt, value-on-below t, value-on.Post, negate-reads.Asked, negate-reads.Learnt, mark-told-reads.Asked, mark-told-reads.Learnt, operate-reads.Asked, operate-reads.Learnt, choose-below t, choose.Post)
-
-pub +branch+branch-by+choose+choose-of+cut+split+split-both+split-by+split-either+value+value-on-spec :
+pub +branch+choose+cut+split+split-both+split-by+split-either+value-spec :
     {M : Type 1} → statement M
 unfolding arithBy
-+branch+branch-by+choose+choose-of+cut+split+split-both+split-by+split-either+value+value-on-spec =
++branch+choose+cut+split+split-both+split-by+split-either+value-spec =
     close
     μ-branch
-    μ-branch-by
     μ-choose
-    μ-choose-of
     μ-cut
     μ-split
     μ-split-both
     μ-split-by
     μ-split-either
     μ-value
-    μ-value-on
     (λ t. branch-lts.spec (branch-calls t) (branch-at t) branch.Post
     (λ c κs. omega arith)
     (λ c. search needs)
     (λ c. let valued = c .before .before in branch-taken _ _ _ _ _ (valued .before .before .if1 .taken) (valued .value .ensures))
     (λ c. branch-left-out _ _ _ _ _ (c .if1 .left)))
-    (λ t. branch-by-lts.spec (branch-by-calls t) (branch-by-at t) branch-by.Post
-    (λ c. left-out _ _ _ _ _ (not-true (c .before .before .args .taken) (c .if1 .taken)))
-    (λ c κs. search needs)
-    (λ c κs. search needs)
-    (λ c κs. search needs)
-    (λ c κs. search needs)
-    (λ c κs. search needs)
-    (λ c κs. omega arith)
-    (λ c. search needs)
-    (λ c.
-    let branched = c .before .before in
-    let carried = branched .before .before .before in
-    let own = carried .before .before in
-    let cut = own .before .before .before .before in
-    let start = cut .before in
-    taken-on _ _ _ _ _ (not-false (start .before .before .args .taken) (start .if1 .left)) (sym (rw (own .own .ensures, cut .cuts .ensures) at (carried .carry-both .ensures))) (branched .branch .ensures))
-    (λ c κs. search needs)
-    (λ c.
-    let kept = c .before in
-    let right = kept .before .before in
-    let left = right .before in
-    let cut = left .before in
-    let start = cut .before in
-    let apart = rw (left .carries .ensures, right .carries2 .ensures) at (kept .before .if2 .left) in
-    taken-on _ _ _ _ _ (not-false (start .before .before .args .taken) (start .if1 .left)) (both-uncarried _ _ _ _ apart)
-    (branch-left-out _ _ _ _ _ (rw (cut .cuts .ensures) at (fails-not (kept .leaves .ensures) (c .if3 .taken)))))
-    (λ c κs. omega arith)
-    (λ c. search needs)
-    (λ c.
-    let valued = c .before .before in
-    let uncut = valued .before .before in
-    let kept = uncut .before in
-    let right = kept .before .before in
-    let left = right .before in
-    let cut = left .before in
-    let start = cut .before in
-    let apart = rw (left .carries .ensures, right .carries2 .ensures) at (kept .before .if2 .left) in
-    taken-on _ _ _ _ _ (not-false (start .before .before .args .taken) (start .if1 .left)) (both-uncarried _ _ _ _ apart)
-    (branch-taken _ _ _ _ _ (rw (cut .cuts .ensures) at (holds-not (kept .leaves .ensures) (uncut .if3 .left))) (valued .value-on .ensures))))
     (λ t. choose-lts.spec (choose-calls t) (choose-at t) choose.Post
-    (λ c κs. search needs)
-    (λ c. search needs)
-    (λ c κs. let arm = c .before .before in let below = children-of _ _ (sym (arm .before .before .shape-at .ensures) ∙ arm .s .given .1) in omega arith)
-    (λ c κs. let arm = c .before .before .before .before .before .before in let below = children-of _ _ (sym (arm .before .before .shape-at .ensures) ∙ arm .s .given .1) in omega arith)
-    (λ c κs. search needs)
-    (λ c κs. let start = c .before .before .before .before .before .before .before .before .before .before .before .before .before .before .before in let falls : 5 * start .args .a + 3 < t = omega (arith, start .pre .0) in (falls, tt))
-    (λ c κs. let start = c .before .before .before .before .before .before .before .before .before .before .before .before .before .before .before .before .before .before .before in let falls : 5 * start .args .b + 3 < t = omega (arith, start .pre .0) in (falls, tt))
-    (λ c κs. search needs)
-    (λ c κs. omega arith)
-    (λ c. search needs)
-    (λ c.
-    let else = c .before .before .before in
-    let then = else .before .before .before .before in
-    let compared = then .before .before in
-    let right = compared .before .before .before in
-    let left = right .before .before .before .before in
-    let arm = left .before .before .before in
-    chosen-by _ _ _ _ _ _ (sym (arm .before .before .shape-at .ensures) ∙ arm .s .given .1) (left .value-on .ensures) (right .value-on2 .ensures) (compared .compare .ensures) (then .branch-by .ensures) (else .branch-by2 .ensures) (c .join .ensures))
-    (λ c. search needs)
-    (λ c. c .before .before .choose-of .ensures))
-    (λ t. choose-of-lts.spec (choose-of-calls t) (choose-of-at t) choose-of.Post
-    (λ c κs. search needs)
     (λ c κs. (omega arith, (λ e. refl, λ e. refl)))
     (λ c κs. omega arith)
     (λ c κs. omega arith)
@@ -314,8 +194,7 @@ unfolding arithBy
     let else = c .before .before .before in
     let then = else .before .before .before .before .before .before .before in
     let said = then .before .before .before .before .before .before .before .before in
-    let own = said .before .before .before .before .before in
-    chosen _ _ _ _ _ _ _ _ _ _ (rw (own .own .ensures) at (said .split .ensures)) (then .branch .ensures) (else .branch2 .ensures) (c .join .ensures)))
+    chosen _ _ _ _ _ _ _ _ _ _ (said .split .ensures) (then .branch .ensures) (else .branch2 .ensures) (c .join .ensures)))
     (λ t. cut-lts.spec (cut-calls t) (cut-at t) cut.Post
     (λ c κs. search needs)
     (λ c κs. search needs)
@@ -385,7 +264,7 @@ unfolding arithBy
     (λ c κs. search needs)
     (λ c κs.
     let start = c .before .before .before .before .before .before .before .before .before .before .before .before .before in
-    let falls : 5 * start .args .b < t = omega (arith, start .pre .0) in
+    let falls : 4 * start .args .b < t = omega (arith, start .pre .0) in
     (falls, (c .before .before .before .is-copy .ensures .1, start .pre .1 .1)))
     (λ c κs. search needs)
     (λ c κs. search needs)
@@ -406,7 +285,7 @@ unfolding arithBy
     (λ c κs. search needs)
     (λ c κs.
     let start = c .before .before .before .before .before .before .before .before .before .before .before .before .before in
-    let falls : 5 * start .args .b < t = omega (arith, start .pre .0) in
+    let falls : 4 * start .args .b < t = omega (arith, start .pre .0) in
     (falls, (start .pre .1 .0, c .before .before .before .is-copy .ensures .1)))
     (λ c κs. search needs)
     (λ c κs. search needs)
@@ -418,17 +297,6 @@ unfolding arithBy
     let left = kept .before .before .before .before in
     either-splits _ _ _ _ _ _ _ _ _ _ _ _ _ _ _ (left .split .ensures) (kept .is-copy .ensures .0) (right .split2 .ensures) (c .before .before .either .ensures) (joined .join-rows .ensures)))
     (λ t. value-lts.spec (value-calls t) (value-at t) value.Post
-    (λ c κs. search needs)
-    (λ c κs. search needs)
-    (λ c κs. omega arith)
-    (λ c. search needs)
-    (λ c.
-    let valued = c .before .before in
-    let highs = valued .before .before in
-    let lows = highs .before .before in
-    let long : length (now (lows .before .before .before .args .row)) ≡ 32 = search needs in
-    rw (lows .low-ends .ensures, highs .high-ends .ensures, own-again _ long) at (valued .value-on .ensures)))
-    (λ t. value-on-lts.spec (value-on-calls t) (value-on-at t) value-on.Post
     (λ c κs. search needs)
     (λ c. search needs)
     (λ c. search needs)
@@ -456,14 +324,14 @@ unfolding arithBy
     let ends = c .before .known-told2 .given in
     let arm = c .before .before in
     input-valued _ _ _ _ (sym (arm .before .before .shape-at .ensures) ∙ arm .s2 .given .1) (read-back (ends .0 .1)) (read-back (ends .1 .0 .1)) (handed32 (c .max32 .ensures) (c .max32 .ok)))
-    (λ c. let arm = c .before .before in variable-valued _ _ _ _ (sym (arm .before .before .shape-at .ensures) ∙ arm .s3 .given .1) (c .slot .ensures))
+    (λ c. let arm = c .before .before .before in variable-valued _ _ _ _ (sym (arm .before .before .shape-at .ensures) ∙ arm .s3 .given .1) (c .range-in .ensures))
     (λ c. search needs)
     (λ c.
     let told = c .before .before in
     let negated = told .before in
     let valued = negated .before .before .before .before in
     let arm = valued .before .before .before in
-    negation-valued _ _ _ _ (sym (arm .before .before .shape-at .ensures) ∙ arm .s4 .given .1) (valued .value-on .ensures) (negated .negate .ensures) (told .mark-told .ensures))
+    negation-valued _ _ _ _ (sym (arm .before .before .shape-at .ensures) ∙ arm .s4 .given .1) (valued .value .ensures) (negated .negate .ensures) (told .mark-told .ensures))
     (λ c. search needs)
     (λ c.
     let told = c .before .before in
@@ -471,7 +339,7 @@ unfolding arithBy
     let right = operated .before .before .before .before in
     let left = right .before .before .before .before in
     let arm = left .before .before .before in
-    binary-valued _ _ _ _ (sym (arm .before .before .shape-at .ensures) ∙ arm .s5 .given .1) (left .value-on2 .ensures) (right .value-on3 .ensures) (operated .operate .ensures) (told .mark-told2 .ensures))
+    binary-valued _ _ _ _ (sym (arm .before .before .shape-at .ensures) ∙ arm .s5 .given .1) (left .value2 .ensures) (right .value3 .ensures) (operated .operate .ensures) (told .mark-told2 .ensures))
     (λ c. search needs)
     (λ c.
     let chose = c .before .before in
