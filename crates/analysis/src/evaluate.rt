@@ -14,6 +14,7 @@ use crate::rows::join_rows;
 use crate::rows::low_ends;
 use crate::rows::own;
 use crate::rows::range_in;
+use crate::rows::set_own;
 use crate::rows::slot;
 use interval::Comparison;
 use interval::Decision;
@@ -368,7 +369,7 @@ pub fn sides_on<'a, 'b, 'c, 'd, 'e>(
     ensures { λ r. ⌜ rowIn (now (no .exit)) ≡ leftOf (narrowOf (condAt (now (nodes .entry)) n) false (ownOf (rowOf (now (lows .entry)) (now (highs .entry))))) ⌝ }
     ensures { λ r. ⌜ now (marks .exit) ≡ markedOf (now (marks .entry)) (condAlarmsOf (condAt (now (nodes .entry)) n) (ownOf (rowOf (now (lows .entry)) (now (highs .entry))))) ⌝ }
 {
-    *yes = own(lows, highs);
+    set_own(yes, lows, highs);
     *no = *yes;
     let s = split_on(nodes, n, lows, highs, marks, yes, no);
     clear_unless(s.yes, yes);

@@ -24,7 +24,7 @@ sides-on-spec =
     tie.close
     (tie.spec
     (λ c κs. search needs)
-    (λ c κs. (c .before .before .before .before .own .ensures, refl))
+    (λ c κs. (c .before .before .before .before .set-own .ensures, refl))
     (λ c κs. search needs)
     (λ c κs. search needs)
     (λ c. search needs)
