@@ -19,7 +19,6 @@ use Rattle.interval.specs.Compare.{allows, bothOf, eitherOf, oppositeOf, compar
 use Rattle.interval.specs.Narrow.{cutsOf}
 use Rattle.interval.specs.declared.Decision.{Decision}
 use Rattle.interval.specs.declared.Comparison.{Comparison}
-use Rattle.interval.specs.declared.Cuts.{Cuts}
 use Rattle.interval.specs.declared.Interval.{Interval}
 use Rattle.interval.specs.declared.Interval.the-variants.{None, Between}
 use Rattle.interval.proofs.IntegerLaws.{min-is, max-is, ≤-antisym}
