@@ -29,10 +29,10 @@ use Rattle.words.proofs.Bools.{clash, or-left, or-right}
 use Rattle.table.specs.Tree.{Arith, constant, input, variable, negation, binary, choice, noArith, Cond, compare, both, either, isNot, noCond}
 use Rattle.analysis.specs.declared.Alarm.{Alarm}
 use Rattle.analysis.specs.Alarms.{toldOf}
-use Rattle.analysis.specs.Rows.{Row, rowOf, rangeOf, Maybe, none, some, rowIf, thenRow, putOf, meetAtOf, eachRest, each, joinRowsOf}
+use Rattle.analysis.specs.Rows.{Row, rangeOf, Maybe, none, some, rowIf, thenRow, putOf, meetAtOf, eachRest, each, joinRowsOf}
 use Rattle.analysis.specs.Analysis.{branchOf, rangeOn, alarmsOn, carryOf, carryBothOf, valueOf, alarmsOf, decisionOf, condAlarmsOf, narrowOf}
 use Rattle.analysis.specs.Reads.{reads, condReads, Agree, Paired}
-use Rattle.analysis.proofs.RowLaws.{each-is}
+use Rattle.analysis.proofs.RowLaws.{joined, joined-low-is, joined-high-is}
 
 same2 : {A B C : Type 0} (f : A → B → C) {a a′ : A} {b b′ : B} → a ≡ a′ → b ≡ b′ → f a b ≡ f a′ b′
 same2 {A} {B} f {a} {a′} {b} {b′} p q = ap (λ (x : A). f x b) p ∙ ap (λ (y : B). f a′ y) q
@@ -72,12 +72,6 @@ each-length f g [] m (y ∷ l′) m′ e h = absurd (omega arith)
 each-length f g (x ∷ l) m [] m′ e h = absurd (omega arith)
 each-length f g (x ∷ l) m (y ∷ l′) m′ e h =
     let k = each-length f g l (drop 1 m) l′ (drop 1 m′) (omega arith) (simp length-drop (omega arith)) in omega arith
-
-min-same : (a : ℤ) → minZ a a ≡ a
-min-same a = min-is (≤ℤ-refl a)
-
-max-same : (a : ℤ) → maxZ a a ≡ a
-max-same a = max-is (≤ℤ-refl a)
 
 -- ---- intervals
 abbrev lowEnd : Interval → ℤ
@@ -212,20 +206,14 @@ module _ (P : ℕ → Type 0) (R S : Row) (agree : (v : ℕ) → P v → rangeOf
   then-alike (some r) none f g h k = absurd h
   then-alike (some r) (some s) f g h k = k r s h
 
-  abbrev joined : Row → Row → Row
-  joined r s = rowOf (each minZ (r .lows) (s .lows)) (each maxZ (r .highs) (s .highs))
-
   joined-ends : (r r′ s s′ : Row) (v : ℕ) → SameEnds r s v → SameEnds r′ s′ v → SameEnds (joined r r′) (joined s s′) v
   joined-ends r r′ s s′ v e f = (
-    each-is minZ (min-same (pos 0)) (r .lows) (r′ .lows) v ∙ rw (e .0, f .0) (sym (each-is minZ (min-same (pos 0)) (s .lows) (s′ .lows) v)),
-    each-is maxZ (max-same (pos 0)) (r .highs) (r′ .highs) v ∙ rw (e .1, f .1) (sym (each-is maxZ (max-same (pos 0)) (s .highs) (s′ .highs) v)),
+    joined-low-is r r′ v ∙ same2 minZ (e .0) (f .0) ∙ sym (joined-low-is s s′ v),
+    joined-high-is r r′ v ∙ same2 maxZ (e .1) (f .1) ∙ sym (joined-high-is s s′ v),
   )
 
   joined-itself : (r : Row) (v : ℕ) → SameEnds (joined r r) r v
-  joined-itself r v = (
-    each-is minZ (min-same (pos 0)) (r .lows) (r .lows) v ∙ min-same (wordOf (r .lows) v),
-    each-is maxZ (max-same (pos 0)) (r .highs) (r .highs) v ∙ max-same (wordOf (r .highs) v),
-  )
+  joined-itself r v = (joined-low-is r r v ∙ min-is (≤ℤ-refl _), joined-high-is r r v ∙ max-is (≤ℤ-refl _))
 
   joined-alike : (r r′ s s′ : Row) → Alike r s → Alike r′ s′ → Alike (joined r r′) (joined s s′)
   joined-alike r r′ s s′ h k = record {

@@ -7,6 +7,7 @@ use Rattle.analysis.proofs.RowLaws.{tighter-within}
 use Rattle.analysis.proofs.AlarmLaws.{marked-lists}
 use Rattle.analysis.proofs.NodeLaws.{Outcome, CondOutcome}
 use Rattle.analysis.proofs.AgreeLaws.{value-agrees, alarms-agree, decision-agrees, condAlarms-agree}
+use Rattle.analysis.proofs.CutLaws.{narrow-cuts}
 use Rattle.analysis.proofs.AnalysisLaws.{arith-outcome, cond-outcome, alarms-kinds, condAlarms-kinds, narrow-tighter}
 
 pub proved : Laws
@@ -17,6 +18,7 @@ proved = record {
   failure-listed = λ c r vs ws p i n k q e. subst (CondOutcome vs c) e (cond-outcome vs ws c p) r i;
   narrow-keeps = λ c r vs ws p i b q e. (subst (CondOutcome vs c) e (cond-outcome vs ws c p)) .keeps r i;
   narrow-within = λ c w r. tighter-within (narrowOf c w r) r (narrow-tighter c w r);
+  narrow-cuts = narrow-cuts;
   alarms-kinds = alarms-kinds;
   condAlarms-kinds = condAlarms-kinds;
   marked-lists = marked-lists;

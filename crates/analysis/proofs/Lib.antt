@@ -8,3 +8,4 @@ pub mod RowCodeLaws
 pub mod WalkLaws
 pub mod NarrowCodeLaws
 pub mod AgreeLaws
+pub mod CutLaws

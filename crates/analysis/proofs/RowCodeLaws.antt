@@ -113,6 +113,13 @@ slots-are l z h room =
 pub few : (l : List ℤ) → length (take 16 l) ≤ 16
 few l = simp length-take (omega arith)
 
+-- a row in an array has no more
+pub few-lows : (ws : List ℤ) → length (rowIn ws .lows) ≤ 16
+few-lows ws = few (drop 0 ws)
+
+pub few-highs : (ws : List ℤ) → length (rowIn ws .highs) ≤ 16
+few-highs ws = few (drop 16 ws)
+
 -- both copies, one after the other: the low ends into zeros, which gives e, and the high ends into that
 module _ (lows highs d e f : List ℤ) (z : Zeros d) (room : length d ≡ 32) (p : e ≡ paste d 0 (take 16 lows) (length (take 16 lows))) where
   low-copy : e ≡ take 16 lows ++ drop (length (take 16 lows)) d
@@ -121,7 +128,7 @@ module _ (lows highs d e f : List ℤ) (z : Zeros d) (room : length d ≡ 32) (p
   low-rest : Zeros (drop (length (take 16 lows)) d)
   low-rest i = getD-drop (length (take 16 lows)) d i (pos 0) ∙ z _
 
-  low-room : length e ≡ 32
+  pub low-room : length e ≡ 32
   low-room =
       ap length low-copy ∙ length-append (take 16 lows) _
       ∙ (let few-lows = few lows in simp length-drop (omega (arith, room)))
@@ -152,16 +159,6 @@ module _ (lows highs d e f : List ℤ) (z : Zeros d) (room : length d ≡ 32) (p
       high =
           ap (λ (l : List ℤ). take 16 (drop 16 l)) parts ∙ ap (take 16) (drop-at (take 16 e) _ 16 half)
           ∙ slots-are highs _ (high-rest (16 + length (take 16 highs)) (omega arith)) (let few-highs = few highs in simp length-drop (omega (arith, low-room)))
-
--- a row in an array has its sixteen slots already
-slots-whole : (l : List ℤ) → length l ≡ 16 → slotsOf l ≡ l
-unfolding slotsOf
-slots-whole l e =
-    ext-getD (pos 0) (tabulate (λ i. wordOf l i) 16) l (length-tabulate (λ i. wordOf l i) 16 ∙ sym e)
-    (λ i h. getD-tabulate (λ j. wordOf l j) 16 i (pos 0) (let long = length-tabulate (λ i. wordOf l i) 16 in omega arith))
-
-pub own-again : (ws : List ℤ) → length ws ≡ 32 → ownOf (rowIn ws) ≡ rowIn ws
-own-again ws e = same-row (slots-whole (partOf ws 0 16) (part-length ws 0 16 (omega arith))) (slots-whole (partOf ws 16 16) (part-length ws 16 16 (omega arith)))
 
 -- a store within the slots, and one past them
 module _ (ws : List ℤ) (v : ℕ) (a b : ℤ) where

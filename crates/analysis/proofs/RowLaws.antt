@@ -76,14 +76,14 @@ inside-mono : {vs : List ℤ} {r s : Row} → Tighter r s → Inside vs r → In
 inside-mono h i = record { at = λ v. widen (h .low v) (h .high v) (i .at v) }
 
 -- the join of two rows is the tightest around both
-abbrev joined : Row → Row → Row
+abbrev pub joined : Row → Row → Row
 joined r s = rowOf (each minZ (r .lows) (s .lows)) (each maxZ (r .highs) (s .highs))
 
 module _ (r s : Row) where
-  joined-low-is : (v : ℕ) → wordOf (joined r s .lows) v ≡ minZ (wordOf (r .lows) v) (wordOf (s .lows) v)
+  pub joined-low-is : (v : ℕ) → wordOf (joined r s .lows) v ≡ minZ (wordOf (r .lows) v) (wordOf (s .lows) v)
   joined-low-is v = each-is minZ (min-is (≤ℤ-refl (pos 0))) (r .lows) (s .lows) v
 
-  joined-high-is : (v : ℕ) → wordOf (joined r s .highs) v ≡ maxZ (wordOf (r .highs) v) (wordOf (s .highs) v)
+  pub joined-high-is : (v : ℕ) → wordOf (joined r s .highs) v ≡ maxZ (wordOf (r .highs) v) (wordOf (s .highs) v)
   joined-high-is v = each-is maxZ (max-is (≤ℤ-refl (pos 0))) (r .highs) (s .highs) v
 
   left-tighter : Tighter r (joined r s)

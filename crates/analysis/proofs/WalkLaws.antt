@@ -1,13 +1,14 @@
 -- One step of the walk that evaluates a tree on a row and marks its alarms: from the shape of a node and what the walk gave for its children to
 -- what the tree's definition says of the node.
 -- Assumes nothing.
-use Prim.Native.Nat.{ℕ}
-use mathlib.Core.Path.{_≡_, refl, ap, _∙_}
+use Prim.Native.Nat.{ℕ, _≤_}
+use mathlib.Core.Path.{_≡_, refl, sym, ap, _∙_}
 use mathlib.Core.Bool.{Bool, true, false, _&&_}
 use mathlib.Core.List.{List, [], _∷_, _++_}
 use types.Run.{OneOf, miss}
 use denote.Enum.Declared.{tagOf}
 use lib.IntN.{ℤ, pos}
+use lib.ListN.{length}
 use Rattle.interval.specs.Integer.{maxZ}
 use Rattle.interval.specs.Lattice.{joinOf}
 use Rattle.interval.specs.Arithmetic.{negateOf, operateOf}
@@ -31,11 +32,13 @@ use Rattle.analysis.specs.declared.Split.{Split}
 use Rattle.analysis.specs.Rows.{Row, rangeOf, Maybe, rowIf, maybeBy, thenRow, joinRowsOf}
 use Rattle.analysis.specs.Alarms.{toldOf, markedOf}
 use Rattle.analysis.specs.Analysis.{valueOf, alarmsOf, decisionOf, condAlarmsOf, narrowOf, rangeOn, alarmsOn, carryBothOf}
+use Rattle.analysis.specs.Cuts.{variableOr, cutRowOf}
 use Rattle.analysis.specs.Arrays.{rowIn, isSome, splitOf, CopyIf, KnownIf}
 use Rattle.analysis.proofs.AlarmLaws.{marked-append}
+use Rattle.analysis.proofs.CutLaws.{narrow-cuts}
 
 -- marks of one list, then of another
-marked-then : (l k : List Alarm) (m : List ℕ) {m′ m″ : List ℕ} → m′ ≡ markedOf m l → m″ ≡ markedOf m′ k → m″ ≡ markedOf m (l ++ k)
+pub marked-then : (l k : List Alarm) (m : List ℕ) {m′ m″ : List ℕ} → m′ ≡ markedOf m l → m″ ≡ markedOf m′ k → m″ ≡ markedOf m (l ++ k)
 marked-then l k m p q = rw (marked-append m l k, ← p) q
 
 -- ---- what the walk gives, from the marks m to the marks m′
@@ -103,13 +106,58 @@ module _ (ns : List ℤ) (r : Row) (n : ℕ) (m : List ℕ) where
   unfolding valueOf markedOf
   no-value e p = rw (arith-of ns n e, p) (refl, refl)
 
--- a choice, from what its condition said and from its branches
-pub chosen : (ns : List ℤ) (r : Row) (c x y : ℕ) (m : List ℕ) {d : Decision} (f g : Bool) (u v : Row) {i j k : Interval} {m′ m″ m‴ : List ℕ} → Splits (condAt ns c) r r r m d (maybeBy f u) (maybeBy g v) m′ → Branched ns (maybeBy (d .yes && f) u) x m′ i m″ → Branched ns (maybeBy (d .no && g) v) y m″ j m‴ → k ≡ joinOf i j → (k ≡ valueOf (choice 0 (condAt ns c) (arithAt ns x) (arithAt ns y)) r) × (m‴ ≡ markedOf m (alarmsOf (choice 0 (condAt ns c) (arithAt ns x) (arithAt ns y)) r))
+-- a choice by the condition c, from what that said and from the branches
+chosen-of :
+    (ns : List ℤ) (r : Row) (c : Cond) (x y : ℕ) (m : List ℕ) {d : Decision} {s t : Maybe} {i j k : Interval} {m₁ m₂ m₃ : List ℕ}
+    → Splits c r r r m d s t m₁ → Branched ns (rowIf (d .yes) s) x m₁ i m₂ → Branched ns (rowIf (d .no) t) y m₂ j m₃ → k ≡ joinOf i j
+    → (k ≡ valueOf (choice 0 c (arithAt ns x) (arithAt ns y)) r) × (m₃ ≡ markedOf m (alarmsOf (choice 0 c (arithAt ns x) (arithAt ns y)) r))
 unfolding valueOf
-chosen ns r c x y m {d} f g u v h p q l =
-    let then = rw (taken-both (d .yes) f u) at p in
-    let else = rw (taken-both (d .no) g v) at q in
+chosen-of ns r c x y m h then else l =
     rw (← h .0, ← h .1 .0, ← h .1 .1 .0, ← then .0, ← else .0) (l, marked-then _ _ m (h .1 .1 .1) (marked-then _ _ _ (then .1) (else .1)))
+
+pub chosen :
+    (ns : List ℤ) (r : Row) (c x y : ℕ) (m : List ℕ) {d : Decision} (f g : Bool) (u v : Row) {i j k : Interval} {m₁ m₂ m₃ : List ℕ}
+    → Splits (condAt ns c) r r r m d (maybeBy f u) (maybeBy g v) m₁ → Branched ns (maybeBy (d .yes && f) u) x m₁ i m₂
+    → Branched ns (maybeBy (d .no && g) v) y m₂ j m₃ → k ≡ joinOf i j
+    → (k ≡ valueOf (choice 0 (condAt ns c) (arithAt ns x) (arithAt ns y)) r)
+    × (m₃ ≡ markedOf m (alarmsOf (choice 0 (condAt ns c) (arithAt ns x) (arithAt ns y)) r))
+chosen ns r c x y m {d} f g u v h p q l =
+    chosen-of ns r (condAt ns c) x y m h (rw (taken-both (d .yes) f u) at p) (rw (taken-both (d .no) g v) at q) l
+
+-- ---- a choice by a comparison
+-- a branch on the row with the cuts u of v and w
+module _ (ns : List ℤ) (r : Row) (n v w : ℕ) (u : Cuts) (m : List ℕ) {t : Bool} where
+  pub cut-left-out : t ≡ false → Branched ns (rowIf t (cutRowOf r v w u)) n m None m
+  unfolding rowIf rangeOn alarmsOn markedOf
+  cut-left-out e = rw e (refl, refl)
+
+  pub cut-taken : {s : Maybe} {i : Interval} {m′ : List ℕ} → t ≡ true → s ≡ cutRowOf r v w u → Branched ns s n m i m′ → Branched ns (rowIf t (cutRowOf r v w u)) n m i m′
+  unfolding rowIf
+  cut-taken e f h = rw (e, ← f) h
+
+-- the choice, from the intervals i and j of both sides and from its branches
+pub chosen-by :
+    (ns : List ℤ) (r : Row) (x y a b : ℕ) (k : Comparison) (m : List ℕ) {i j p q z : Interval} {d : Decision} {v w : ℕ} {f g : Cuts} {m₁ m₂ m₃ m₄ : List ℕ}
+    → length (r .lows) ≤ 16 → length (r .highs) ≤ 16 → Valued ns r x m i m₁ → Valued ns r y m₁ j m₂ → d ≡ compareOf k i j
+    → v ≡ variableOr 16 (arithAt ns x) → w ≡ variableOr 17 (arithAt ns y) → f ≡ cutsOf k true i j → g ≡ cutsOf k false i j
+    → Branched ns (rowIf (d .yes) (cutRowOf r v w f)) a m₂ p m₃ → Branched ns (rowIf (d .no) (cutRowOf r v w g)) b m₃ q m₄ → z ≡ joinOf p q
+    → (z ≡ valueOf (choice 0 (compare 0 k (arithAt ns x) (arithAt ns y)) (arithAt ns a) (arithAt ns b)) r)
+    × (m₄ ≡ markedOf m (alarmsOf (choice 0 (compare 0 k (arithAt ns x) (arithAt ns y)) (arithAt ns a) (arithAt ns b)) r))
+unfolding decisionOf
+chosen-by ns r x y a b k m low high h l e v w f g then else o =
+    let is : (b : Bool) → narrowOf (compare 0 k (arithAt ns x) (arithAt ns y)) b r ≡ _ = λ b. narrow-cuts 0 k (arithAt ns x) (arithAt ns y) b r low high in
+    chosen-of ns r (compare 0 k (arithAt ns x) (arithAt ns y)) a b m
+    (rw (h .0, l .0) at e, (rw (v, w, f, h .0, l .0) (sym (is true)), (rw (v, w, g, h .0, l .0) (sym (is false)), marked-then _ _ m (h .1) (l .1))))
+    then else o
+
+-- the same of the node c that is the comparison
+pub choice-by : (ns : List ℤ) (r : Row) (c a b : ℕ) (m : List ℕ) {k : Comparison} {x y : ℕ} {z : Interval} {m′ : List ℕ} → shapeOf ns c ≡ Compare k x y
+    → (z ≡ valueOf (choice 0 (compare 0 k (arithAt ns x) (arithAt ns y)) (arithAt ns a) (arithAt ns b)) r)
+    × (m′ ≡ markedOf m (alarmsOf (choice 0 (compare 0 k (arithAt ns x) (arithAt ns y)) (arithAt ns a) (arithAt ns b)) r))
+    → (z ≡ valueOf (choice 0 (condAt ns c) (arithAt ns a) (arithAt ns b)) r)
+    × (m′ ≡ markedOf m (alarmsOf (choice 0 (condAt ns c) (arithAt ns a) (arithAt ns b)) r))
+unfolding condBy valueOf
+choice-by ns r c a b m e h = rw (cond-of ns c e) h
 
 -- ---- conditions
 -- the tags of the shapes that are no condition, and that such a shape's tree is none

@@ -1,24 +1,27 @@
 -- What the analysis means for the evaluation of trees, for every tree, row, values within the row, schedule and position. The function `laws_hold`
 -- has these laws as its contract; they are all that a whole run needs of this crate.
 -- Assumes nothing.
-use Prim.Native.Nat.{ℕ, _<_}
+use Prim.Native.Nat.{ℕ, _<_, _≤_}
 use mathlib.Core.Path.{_≡_}
 use mathlib.Core.Bool.{Bool, true}
 use mathlib.Core.List.{List}
 use mathlib.Core.Logic.{_⊎_}
 use lib.IntN.{ℤ}
-use lib.ListN.{getD, replicate}
+use lib.ListN.{length, getD, replicate}
 use lib.Dec.{eqb}
 use Rattle.interval.specs.Interval.{Holds}
 use Rattle.interval.specs.Compare.{allows}
+use Rattle.interval.specs.Narrow.{cutsOf}
+use Rattle.interval.specs.declared.Comparison.{Comparison}
 use Rattle.table.specs.declared.Evaluation.the-variants.{Value, Error}
 use Rattle.table.specs.declared.Verity.the-variants.{Truth, Failure}
-use Rattle.table.specs.Tree.{Arith, Cond}
+use Rattle.table.specs.Tree.{Arith, Cond, compare}
 use Rattle.table.specs.Meaning.{result, truth}
 use Rattle.analysis.specs.declared.Alarm.{Alarm}
 use Rattle.analysis.specs.Rows.{Row, Inside, Kept, MaybeWithin}
 use Rattle.analysis.specs.Alarms.{lists, placeOf, markedOf}
 use Rattle.analysis.specs.Analysis.{valueOf, alarmsOf, decisionOf, condAlarmsOf, narrowOf}
+use Rattle.analysis.specs.Cuts.{variableOr, cutRowOf}
 use Rattle.analysis.specs.Reads.{reads, condReads, Agree, NoneEmpty, Paired}
 
 abbrev pub IsKind : ℕ → Type 0
@@ -39,6 +42,12 @@ pub record Laws : Type 0 where
   pub narrow-keeps : (c : Cond) (r : Row) (vs ws : List ℤ) (p : ℕ) → Inside vs r → (b : Bool) (q : ℕ) → truth c vs ws p ≡ Truth b q → Kept vs (narrowOf c b r)
   -- a narrowed row lies within the row it came from
   pub narrow-within : (c : Cond) (w : Bool) (r : Row) → MaybeWithin (narrowOf c w r) r
+  -- a comparison writes at most two intervals into a row of sixteen slots: the cuts of those of its sides that are variables
+  pub narrow-cuts :
+      (n : ℕ) (k : Comparison) (x y : Arith) (w : Bool) (r : Row)
+      → length (r .lows) ≤ 16
+      → length (r .highs) ≤ 16
+      → narrowOf (compare n k x y) w r ≡ cutRowOf r (variableOr 16 x) (variableOr 17 y) (cutsOf k w (valueOf x r) (valueOf y r))
   -- every alarm is of kind 1 or 2, and the marks of a list of such alarms are that set of pairs
   pub alarms-kinds : (x : Arith) (r : Row) → Kinds (alarmsOf x r)
   pub condAlarms-kinds : (c : Cond) (r : Row) → Kinds (condAlarmsOf c r)

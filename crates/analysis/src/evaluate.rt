@@ -1,22 +1,23 @@
 // The interval of arithmetic on a row, and what a condition says of a row, with their alarms marked in the same walk. They call each other, the node
 // number falling. A comparison's sides are evaluated once, on the row that is read, for its decision and for both rows that it cuts; they are evaluated
-// again, without alarms, only for a row that isn't a copy of that. No comparison makes a row: a choice makes one for each branch, a 'both' or 'either' one
-// for its right side. A point's row is read where it lies in the proposal (`value_on`, `sides_on`).
+// again, without alarms, only for a row that isn't a copy of that. No comparison makes a row. A choice by a comparison makes one for a branch that the
+// decision allows; a choice by any other condition one for each branch, and a 'both' or 'either' one for its right side. A point's row is read where it lies
+// in the proposal (`value_on`).
 use crate::Copies;
 use crate::Row;
 use crate::Split;
 use crate::alarms::mark_told;
 use crate::narrow::carry_both;
+use crate::narrow::put_cuts;
+use crate::narrow::variable_or;
 use crate::rows::clear_unless;
-use crate::rows::high_ends;
 use crate::rows::is_copy;
 use crate::rows::join_rows;
-use crate::rows::low_ends;
 use crate::rows::own;
 use crate::rows::range_in;
-use crate::rows::set_own;
 use crate::rows::slot;
 use interval::Comparison;
+use interval::Cuts;
 use interval::Decision;
 use interval::Interval;
 use interval::arithmetic::negate;
@@ -34,9 +35,10 @@ ghost use mathlib.Core.Path.{_≡_};
 ghost use mathlib.Core.Bool.{true, false};
 ghost use Rattle.interval.specs.Compare.{decision, oppositeOf, compareOf};
 ghost use Rattle.table.specs.Tree.{choice, compare, both, either, arithAt, condAt};
-ghost use Rattle.analysis.specs.Rows.{rowOf, ownOf, maybeBy};
+ghost use Rattle.analysis.specs.Rows.{rowOf, ownOf, maybeBy, rowIf};
 ghost use Rattle.analysis.specs.Alarms.{markedOf};
 ghost use Rattle.analysis.specs.Analysis.{valueOf, alarmsOf, decisionOf, condAlarmsOf, narrowOf, rangeOn, alarmsOn};
+ghost use Rattle.analysis.specs.Cuts.{cutRowOf};
 ghost use Rattle.analysis.specs.Arrays.{rowIn, leftOf, splitOf, CopyIf, KnownIf};
 
 // The interval of the arithmetic node n on a row in an array.
@@ -67,8 +69,75 @@ pub fn value<'a, 'b, 'c>(nodes: &'a [i32], n: usize, row: &'b Row, marks: &'c mu
     }
 }
 
-// A choice by the condition node c. Its branches' rows are made here, and the condition narrows them in their places.
+// A choice by the condition node c. A comparison cuts at most two intervals, so that its branches need a row only where they are taken.
 fn choose<'a, 'b, 'c>(
+    nodes: &'a [i32],
+    c: usize,
+    a: usize,
+    b: usize,
+    row: &'b Row,
+    marks: &'c mut [u8],
+) -> Interval
+    ensures { λ r. ⌜ r ≡ valueOf (choice 0 (condAt (now (nodes .entry)) c) (arithAt (now (nodes .entry)) a) (arithAt (now (nodes .entry)) b)) (rowIn (now (row .entry))) ⌝ }
+    ensures { λ r. ⌜ now (marks .exit) ≡ markedOf (now (marks .entry)) (alarmsOf (choice 0 (condAt (now (nodes .entry)) c) (arithAt (now (nodes .entry)) a) (arithAt (now (nodes .entry)) b)) (rowIn (now (row .entry)))) ⌝ }
+{
+    let shape = shape_at(nodes, c);
+    match shape {
+        Shape::Compare(k, x, y) => choose_by(nodes, k, x, y, a, b, row, marks),
+        _ => choose_split(nodes, c, a, b, row, marks),
+    }
+}
+
+// A choice by a comparison of the arithmetic nodes x and y.
+fn choose_by<'a, 'b, 'c>(
+    nodes: &'a [i32],
+    k: Comparison,
+    x: usize,
+    y: usize,
+    a: usize,
+    b: usize,
+    row: &'b Row,
+    marks: &'c mut [u8],
+) -> Interval
+    ensures { λ r. ⌜ r ≡ valueOf (choice 0 (compare 0 k (arithAt (now (nodes .entry)) x) (arithAt (now (nodes .entry)) y)) (arithAt (now (nodes .entry)) a) (arithAt (now (nodes .entry)) b)) (rowIn (now (row .entry))) ⌝ }
+    ensures { λ r. ⌜ now (marks .exit) ≡ markedOf (now (marks .entry)) (alarmsOf (choice 0 (compare 0 k (arithAt (now (nodes .entry)) x) (arithAt (now (nodes .entry)) y)) (arithAt (now (nodes .entry)) a) (arithAt (now (nodes .entry)) b)) (rowIn (now (row .entry)))) ⌝ }
+{
+    let left = value(nodes, x, row, marks);
+    let right = value(nodes, y, row, marks);
+    let d = compare(k, left, right);
+    let v = variable_or(nodes, x, 16);
+    let w = variable_or(nodes, y, 17);
+    let yes = cuts(k, true, left, right);
+    let no = cuts(k, false, left, right);
+    let then = cut_branch(d.yes, nodes, a, v, w, yes, row, marks);
+    let other = cut_branch(d.no, nodes, b, v, w, no, row, marks);
+    join(then, other)
+}
+
+// A branch of such a choice, with the cuts u of the variables v and w. Only where the decision allows it a row is made for it.
+fn cut_branch<'a, 'b, 'c>(
+    allowed: bool,
+    nodes: &'a [i32],
+    n: usize,
+    v: usize,
+    w: usize,
+    u: Cuts,
+    row: &'b Row,
+    marks: &'c mut [u8],
+) -> Interval
+    ensures { λ r. ⌜ r ≡ rangeOn (rowIf allowed (cutRowOf (rowIn (now (row .entry))) v w u)) (valueOf (arithAt (now (nodes .entry)) n)) ⌝ }
+    ensures { λ r. ⌜ now (marks .exit) ≡ markedOf (now (marks .entry)) (alarmsOn (rowIf allowed (cutRowOf (rowIn (now (row .entry))) v w u)) (alarmsOf (arithAt (now (nodes .entry)) n))) ⌝ }
+{
+    if !allowed {
+        return Interval::None;
+    }
+    let mut own = *row;
+    let some = put_cuts(&mut own, v, w, u);
+    branch(some, nodes, n, &own, marks)
+}
+
+// A choice by any condition node c. Its branches' rows are made here, and the condition narrows them in their places.
+fn choose_split<'a, 'b, 'c>(
     nodes: &'a [i32],
     c: usize,
     a: usize,
@@ -351,62 +420,14 @@ pub fn sides<'a, 'b, 'c, 'd, 'e>(
     ensures { λ r. ⌜ rowIn (now (no .exit)) ≡ leftOf (narrowOf (condAt (now (nodes .entry)) n) false (rowIn (now (row .entry)))) ⌝ }
     ensures { λ r. ⌜ now (marks .exit) ≡ markedOf (now (marks .entry)) (condAlarmsOf (condAt (now (nodes .entry)) n) (rowIn (now (row .entry)))) ⌝ }
 {
-    sides_on(nodes, n, low_ends(row), high_ends(row), marks, yes, no)
-}
-
-// The same of the sixteen slots of a row that is read where it lies.
-pub fn sides_on<'a, 'b, 'c, 'd, 'e>(
-    nodes: &'a [i32],
-    n: usize,
-    lows: &'b [i32],
-    highs: &'b [i32],
-    marks: &'c mut [u8],
-    yes: &'d mut Row,
-    no: &'e mut Row,
-) -> Split
-    ensures { λ r. ⌜ r ≡ splitOf (condAt (now (nodes .entry)) n) (ownOf (rowOf (now (lows .entry)) (now (highs .entry)))) ⌝ }
-    ensures { λ r. ⌜ rowIn (now (yes .exit)) ≡ leftOf (narrowOf (condAt (now (nodes .entry)) n) true (ownOf (rowOf (now (lows .entry)) (now (highs .entry))))) ⌝ }
-    ensures { λ r. ⌜ rowIn (now (no .exit)) ≡ leftOf (narrowOf (condAt (now (nodes .entry)) n) false (ownOf (rowOf (now (lows .entry)) (now (highs .entry))))) ⌝ }
-    ensures { λ r. ⌜ now (marks .exit) ≡ markedOf (now (marks .entry)) (condAlarmsOf (condAt (now (nodes .entry)) n) (ownOf (rowOf (now (lows .entry)) (now (highs .entry))))) ⌝ }
-{
-    set_own(yes, lows, highs);
-    *no = *yes;
-    let s = split_on(nodes, n, lows, highs, marks, yes, no);
-    clear_unless(s.yes, yes);
-    clear_unless(s.no, no);
-    s
-}
-
-// The same in two copies of the row. The sides of a comparison are read where the row lies; any other condition is decided on a row in an array.
-fn split_on<'a, 'b, 'c, 'd, 'e>(
-    nodes: &'a [i32],
-    n: usize,
-    lows: &'b [i32],
-    highs: &'b [i32],
-    marks: &'c mut [u8],
-    yes: &'d mut Row,
-    no: &'e mut Row,
-) -> Split
-    requires { ⌜ (rowIn (now yes) ≡ ownOf (rowOf (now lows) (now highs))) × (now no ≡ now yes) ⌝ }
-    ensures { λ r. ⌜ r .decision ≡ decisionOf (condAt (now (nodes .entry)) n) (ownOf (rowOf (now (lows .entry)) (now (highs .entry)))) ⌝ }
-    ensures { λ r. ⌜ maybeBy (r .yes) (rowIn (now (yes .exit))) ≡ narrowOf (condAt (now (nodes .entry)) n) true (ownOf (rowOf (now (lows .entry)) (now (highs .entry)))) ⌝ }
-    ensures { λ r. ⌜ maybeBy (r .no) (rowIn (now (no .exit))) ≡ narrowOf (condAt (now (nodes .entry)) n) false (ownOf (rowOf (now (lows .entry)) (now (highs .entry)))) ⌝ }
-    ensures { λ r. ⌜ now (marks .exit) ≡ markedOf (now (marks .entry)) (condAlarmsOf (condAt (now (nodes .entry)) n) (ownOf (rowOf (now (lows .entry)) (now (highs .entry))))) ⌝ }
-{
+    *yes = *row;
+    *no = *row;
     let copies = Copies {
         yes: true,
         no: true,
     };
-    let shape = shape_at(nodes, n);
-    match shape {
-        Shape::Compare(k, a, b) => {
-            let x = value_on(nodes, a, lows, highs, marks);
-            let y = value_on(nodes, b, lows, highs, marks);
-            split_by(nodes, k, a, b, x, y, copies, yes, no)
-        }
-        _ => {
-            let row = *yes;
-            split(nodes, n, &row, marks, copies, yes, no)
-        }
-    }
+    let s = split(nodes, n, row, marks, copies, yes, no);
+    clear_unless(s.yes, yes);
+    clear_unless(s.no, no);
+    s
 }

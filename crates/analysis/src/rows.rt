@@ -70,26 +70,18 @@ fn put_ends<'a, 'b>(row: &'a mut [i32], at: usize, ws: &'b [i32])
     }
 }
 
-// The row of two lent slices, in the place of another.
-pub(crate) fn set_own<'a, 'b>(row: &'a mut Row, lows: &'b [i32], highs: &'b [i32])
-    ensures { λ r. ⌜ rowIn (now (row .exit)) ≡ ownOf (rowOf (now (lows .entry)) (now (highs .entry))) ⌝ }
-{
-    *row = [0; 32];
-    put_ends(row, 0, part(lows, 0, 16));
-    put_ends(row, 16, part(highs, 0, 16));
-}
-
 // The row of two lent slices, as a row of its own.
 pub fn own<'a>(lows: &'a [i32], highs: &'a [i32]) -> Row
     ensures { λ r. ⌜ rowIn r ≡ ownOf (rowOf (now (lows .entry)) (now (highs .entry))) ⌝ }
 {
     let mut row = [0i32; 32];
-    set_own(&mut row, lows, highs);
+    put_ends(&mut row, 0, part(lows, 0, 16));
+    put_ends(&mut row, 16, part(highs, 0, 16));
     row
 }
 
 // The row with the interval s of v; none where s is none.
-fn put(row: &mut [i32], v: usize, s: Interval) -> bool
+pub(crate) fn put(row: &mut [i32], v: usize, s: Interval) -> bool
     requires { ⌜ length (now row) ≡ 32 ⌝ }
     ensures { λ r. ⌜ maybeBy r (rowIn (now (row .exit))) ≡ putOf (rowIn (now (row .entry))) v s ⌝ }
 {

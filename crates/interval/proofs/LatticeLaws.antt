@@ -4,13 +4,13 @@
 use mathlib.Core.Path.{_≡_, refl, sym}
 use mathlib.Core.Bool.{Bool, true, false, cond, _&&_}
 use lib.IntN.{ℤ}
-use lib.Signed.{leZ, _≤ℤ_}
+use lib.Signed.{leZ, _≤ℤ_, ≤ℤ-refl}
 use Rattle.interval.specs.Integer.{minZ, maxZ}
 use Rattle.interval.specs.Interval.{onEnds, onBoth, fromTo, takenOf, Within, Holds}
 use Rattle.interval.specs.Lattice.{isNoneOf, withinOf, _⊑_, meetOf, joinOf}
 use Rattle.interval.specs.declared.Interval.{Interval}
 use Rattle.interval.specs.declared.Interval.the-variants.{None, Between}
-use Rattle.interval.proofs.IntegerLaws.{≤-trans, le-true, leZ-cases, leZ-yes′, min-left, min-right, max-left, max-right, min-above, max-below, min-one, max-one, and-left, and-right, clash}
+use Rattle.interval.proofs.IntegerLaws.{≤-trans, ≤-antisym, le-true, leZ-cases, leZ-yes′, min-left, min-right, max-left, max-right, min-above, max-below, min-one, max-one, and-left, and-right, clash}
 use Rattle.interval.proofs.IntervalLaws.{first, last, ordered, widen, Inside, inside, onEnds-holds, onBoth-holds, onEnds-cases, onBoth-cases, fromTo-holds, fromTo-only}
 
 -- ---- none
@@ -105,6 +105,22 @@ Ordered (Between a b) = a ≤ℤ b
 pub meet-ordered : (r s : Interval) → Ordered (meetOf r s)
 unfolding meetOf
 meet-ordered r s = onBoth-cases Ordered None _ r s tt (λ a b c d _ _ _ _. leZ-cases Ordered (maxZ a c) (minZ b d) (Between (maxZ a c) (minZ b d)) None (λ h. h) (λ _. tt))
+
+-- with none, and with what lies within it already
+pub meet-none : (r : Interval) → meetOf r None ≡ None
+unfolding meetOf onEnds
+meet-none r = onEnds-cases (λ (t : Interval). t ≡ None) None _ r refl (λ a b _ _. refl)
+
+pub meet-absorbs : (r s : Interval) → Ordered s → s ⊑ r → meetOf r s ≡ s
+unfolding meetOf onEnds
+meet-absorbs r None o e = meet-none r
+meet-absorbs r (Between a b) o e = wider-cases (λ t. meetOf t (Between a b) ≡ Between a b) r o e (λ c d i. rw (
+  le-true (≤-trans (i .low) (≤-trans o (i .high))),
+  le-true o,
+  ≤-antisym (max-below (i .low) (≤ℤ-refl a)) (max-right c a),
+  ≤-antisym (min-right d b) (min-above (i .high) (≤ℤ-refl b)),
+  le-true o,
+))
 
 pub meet-mono : (r r′ s s′ : Interval) → r ⊑ r′ → s ⊑ s′ → meetOf r s ⊑ meetOf r′ s′
 meet-mono r r′ s s′ h k = holds-within (meetOf r s) (meetOf r′ s′) (λ z p.

@@ -7,7 +7,7 @@ use Rattle.interval.proofs.LatticeLaws.{meet-contains, meet-within-left
 use Rattle.interval.proofs.ArithmeticLaws.{tells-some, negate-tells, negate-mono, operate-tells, operate-zero, operate-zero-only, operate-overflow-only, remainder-no-overflow, operate-mono}
 use Rattle.interval.proofs.RemainderLaws.{largest-bounds, largest-attained}
 use Rattle.interval.proofs.CompareLaws.{compare-allows, both-allows, either-allows, opposite-allows, compare-mono, both-mono, either-mono, opposite-mono}
-use Rattle.interval.proofs.NarrowLaws.{cuts-keep, cuts-within, cuts-mono}
+use Rattle.interval.proofs.NarrowLaws.{cuts-keep, cuts-within, cuts-met, cuts-mono}
 
 pub proved : Laws
 proved = record {
@@ -31,6 +31,8 @@ proved = record {
     cuts-contains-right = λ k r s x y h i. cuts-keep k r s x y h i .right;
     cuts-within-left = λ k w r s. cuts-within k w r s .left;
     cuts-within-right = λ k w r s. cuts-within k w r s .right;
+    cuts-met-left = λ k w r s. cuts-met k w r s .0;
+    cuts-met-right = λ k w r s. cuts-met k w r s .1;
   };
   lattice = record {
     meet-contains = meet-contains;

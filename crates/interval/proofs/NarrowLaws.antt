@@ -1,4 +1,5 @@
--- The cuts that a comparison of a known truth makes keep both numbers, lie within what was cut, and are wider for wider operands.
+-- The cuts that a comparison of a known truth makes keep both numbers, lie within what was cut, so that meeting them with it changes nothing, and are
+-- wider for wider operands.
 -- Assumes nothing.
 use mathlib.Core.Path.{_≡_, refl, sym, _∙_}
 use mathlib.Core.Bool.{Bool, true, false, cond, _&&_}
@@ -7,7 +8,7 @@ use lib.Signed.{leZ, _≤ℤ_, ≤ℤ-refl}
 use borrow.Author.Tests.{not-true, not-false}
 use Rattle.interval.specs.Integer.{eqZ}
 use Rattle.interval.specs.Interval.{Holds}
-use Rattle.interval.specs.Lattice.{_⊑_}
+use Rattle.interval.specs.Lattice.{_⊑_, meetOf}
 use Rattle.interval.specs.Compare.{test}
 use Rattle.interval.specs.Narrow.{noCutsOf, keptOf, swappedOf, lowPastOf, highPastOf, withoutOf, cutsAt, cutsForOf, cutsOf}
 use Rattle.interval.specs.Laws.{CutsWithin}
@@ -18,7 +19,7 @@ use Rattle.interval.specs.declared.Comparison.{Comparison}
 use Rattle.interval.specs.declared.Comparison.the-variants.{Less, AtMost, Equal, NotEqual}
 use Rattle.interval.proofs.IntegerLaws.{≤-trans, add-mono, sub-mono, suc-above, pred-below, suc-low, pred-high, past-low, le-true, lt-true, leZ-yes′, leZ-no′, ltZ-yes′, ltZ-no′, min-left, min-right, max-left, max-right, min-above, max-below, min-mono, max-mono, and-left, and-right, eqZ-yes, eqZ-no}
 use Rattle.interval.proofs.IntervalLaws.{first, last, Inside, inside, single-inside, inside-single, onBoth-holds, onBoth-cases, fromTo-holds}
-use Rattle.interval.proofs.LatticeLaws.{none-within, within-holds, holds-within, onBoth-mono, fromTo-inside, fromTo-mono}
+use Rattle.interval.proofs.LatticeLaws.{none-within, within-holds, holds-within, onBoth-mono, fromTo-inside, fromTo-mono, Ordered, meet-absorbs}
 
 -- ---- two cuts
 -- x and y each lie in their side
@@ -132,6 +133,49 @@ for-within NotEqual false a b c d = at-within Equal a b c d
 pub cuts-within : (k : Comparison) (w : Bool) (r s : Interval) → CutsWithin (cutsOf k w r s) (cuts r s)
 unfolding cutsOf
 cuts-within k w r s = onBoth-cases (λ u. CutsWithin u (cuts r s)) noCutsOf (cutsForOf k w) r s (no-cuts-least (cuts r s)) (λ a b c d _ _ e i. rw (e, i) (for-within k w a b c d))
+
+-- ---- and their ends are in their order
+record CutsOrdered (u : Cuts) : Type 0 where
+  pub left : Ordered (u .left)
+  pub right : Ordered (u .right)
+
+no-cuts-ordered : CutsOrdered noCutsOf
+no-cuts-ordered = record { left = tt; right = tt }
+
+swapped-ordered : {u : Cuts} → CutsOrdered u → CutsOrdered (swappedOf u)
+swapped-ordered p = record { left = p .right; right = p .left }
+
+kept-ordered : (r s : Interval) → CutsOrdered (keptOf r s)
+unfolding keptOf
+kept-ordered r s = onBoth-cases CutsOrdered noCutsOf _ r s no-cuts-ordered (λ a b c d h k _ _. record { left = h; right = k })
+
+at-ordered : (k : Comparison) (a b c d : ℤ) → CutsOrdered (cutsAt k a b c d)
+unfolding cutsAt
+at-ordered Less a b c d = kept-ordered _ _
+at-ordered AtMost a b c d = kept-ordered _ _
+at-ordered Equal a b c d = kept-ordered _ _
+at-ordered NotEqual a b c d = kept-ordered _ _
+
+for-ordered : (k : Comparison) (w : Bool) (a b c d : ℤ) → CutsOrdered (cutsForOf k w a b c d)
+unfolding cutsForOf
+for-ordered k true a b c d = at-ordered k a b c d
+for-ordered Less false a b c d = swapped-ordered (at-ordered AtMost c d a b)
+for-ordered AtMost false a b c d = swapped-ordered (at-ordered Less c d a b)
+for-ordered Equal false a b c d = at-ordered NotEqual a b c d
+for-ordered NotEqual false a b c d = at-ordered Equal a b c d
+
+cuts-ordered : (k : Comparison) (w : Bool) (r s : Interval) → CutsOrdered (cutsOf k w r s)
+unfolding cutsOf
+cuts-ordered k w r s = onBoth-cases CutsOrdered noCutsOf (cutsForOf k w) r s no-cuts-ordered (λ a b c d _ _ _ _. for-ordered k w a b c d)
+
+-- so that meeting them with what was cut changes nothing
+pub cuts-met :
+    (k : Comparison) (w : Bool) (r s : Interval)
+    → (meetOf r (cutsOf k w r s .left) ≡ cutsOf k w r s .left) × (meetOf s (cutsOf k w r s .right) ≡ cutsOf k w r s .right)
+cuts-met k w r s =
+    let o = cuts-ordered k w r s in
+    let i = cuts-within k w r s in
+    (meet-absorbs r _ (o .left) (i .left), meet-absorbs s _ (o .right) (i .right))
 
 -- ---- and keep two numbers for which the comparison is so
 without-keeps : (x y : ℤ) → (x ≡ y → ⊥) → Holds (withoutOf x x y y) x

@@ -99,6 +99,9 @@ pub record Narrowing : Type 0 where
   pub cuts-contains-right : (k : Comparison) (r s : Interval) (x y : ℤ) → Holds r x → Holds s y → Holds (cutsOf k (test k x y) r s .right) y
   pub cuts-within-left : (k : Comparison) (w : Bool) (r s : Interval) → cutsOf k w r s .left ⊑ r
   pub cuts-within-right : (k : Comparison) (w : Bool) (r s : Interval) → cutsOf k w r s .right ⊑ s
+  -- and meeting them with what was cut changes nothing
+  pub cuts-met-left : (k : Comparison) (w : Bool) (r s : Interval) → meetOf r (cutsOf k w r s .left) ≡ cutsOf k w r s .left
+  pub cuts-met-right : (k : Comparison) (w : Bool) (r s : Interval) → meetOf s (cutsOf k w r s .right) ≡ cutsOf k w r s .right
 
 pub record Lattice : Type 0 where
   pub meet-contains : (r s : Interval) (z : ℤ) → Holds r z → Holds s z → Holds (meetOf r s) z

@@ -15,7 +15,7 @@ use Rattle.words.proofs.PartLaws.{part-word, part-length}
 use Rattle.table.specs.Layout.{sizesOf}
 use Rattle.rules.specs.Proposal.{rowsOf, entriesOf, intervalsOf, headsFrom, lowsFrom, proposalLength, headsOf, headOf, lowsOf, highsOf, rowAt, entriesAt}
 use Rattle.rules.specs.Rules.{headInRange, rule9}
-use Rattle.rules.specs.Ready.{Apart, Readable, Ready}
+use Rattle.rules.specs.Ready.{Apart, Whole, Readable, Ready}
 use Rattle.rules.proofs.ProposalLaws.{intervals-bound}
 use Rattle.rules.proofs.RangeLaws.{end-is}
 
@@ -76,6 +76,9 @@ module _ {t w : List ℤ} (r : Ready t w) where
   row-highs-length : (k : ℕ) → k < rowsOf t → length (rowAt t w k .highs) ≡ sizesOf t .variables
   unfolding rowAt
   row-highs-length k l = part-length (highsOf t w) (k * sizesOf t .variables) (sizesOf t .variables) (rw highs-length (row-room k l))
+
+  pub row-whole : {lows highs : List ℤ} (k : ℕ) → k < rowsOf t → lows ≡ rowAt t w k .lows → highs ≡ rowAt t w k .highs → Whole t lows highs
+  row-whole k l e f = record { variables = r .bounded .variables; low = rw e (row-lows-length k l); high = rw f (row-highs-length k l) }
 
   -- ---- refusal 9 at the variable of an entry's head, and at its ends
   pub head-variable : (i : ℕ) → i < entriesOf w → headOf t w i 2 < sizesOf t .variables

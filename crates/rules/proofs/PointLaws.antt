@@ -1,13 +1,14 @@
 -- Rules 12, 13 and 14 at a point, by what stands there: from what the code's calls give to what the definitions say. Each public law is about one
 -- `return` of the code, whose answer is y or is made of its tests.
 -- Assumes nothing.
-use Prim.Native.Nat.{ℕ, _+_}
+use Prim.Native.Nat.{ℕ, _+_, _<_}
 use mathlib.Core.Path.{_≡_, refl, sym, ap, _∙_}
 use mathlib.Core.Bool.{Bool, true, false, not, _&&_, and-true, and-assoc}
 use mathlib.Core.List.{List, [], _∷_, _++_}
+use native.Mathlib.Omega.{arith}
 use borrow.Author.Tests.{not-true, not-false}
 use lib.Dec.{eqb}
-use lib.IntN.{ℤ}
+use lib.IntN.{ℤ, pos}
 use lib.ListN.{set}
 use Rattle.words.specs.First.{allBelow}
 use Rattle.words.proofs.Bools.{fails-not, holds-not}
@@ -15,16 +16,23 @@ use Rattle.interval.specs.Integer.{minZ, maxZ}
 use Rattle.interval.specs.Lattice.{isNoneOf, meetOf}
 use Rattle.interval.specs.declared.Interval.{Interval}
 use Rattle.interval.specs.declared.Interval.the-variants.{None, Between}
+use Rattle.interval.specs.declared.Cuts.{Cuts}
+use Rattle.interval.specs.declared.Comparison.{Comparison}
+use Rattle.interval.specs.Narrow.{cutsOf}
 use Rattle.table.specs.Layout.{sizesOf, pointsOf, nodesOf, taskOf}
-use Rattle.table.specs.Decode.{pointOf}
-use Rattle.table.specs.Tree.{arithAt, condAt}
+use Rattle.table.specs.Decode.{shapeOf, pointOf}
+use Rattle.table.specs.Tree.{Arith, Cond, compare, condBy, arithAt, condAt}
+use Rattle.table.specs.declared.Shape.{Shape}
+use Rattle.table.specs.declared.Shape.the-variants.{Compare}
+use Rattle.table.proofs.TreeLaws.{cond-of}
 use Rattle.table.specs.declared.Point.{Point}
 use Rattle.table.specs.declared.Point.the-variants.{End, Assign, Test, Lock, Unlock}
-use Rattle.analysis.specs.Rows.{Row, rowOf, rangeOf, ownOf, some, maybeBy, rowIf, each}
+use Rattle.analysis.specs.Rows.{Row, rowOf, rangeOf, slotsOf, ownOf, Maybe, some, maybeBy, rowIf, putOf, each}
 use Rattle.analysis.specs.Alarms.{markedOf}
-use Rattle.analysis.specs.Analysis.{valueOf, narrowOf}
-use Rattle.analysis.specs.Arrays.{leftOf, splitOf}
-use Rattle.analysis.specs.declared.Split.{Split}
+use Rattle.analysis.specs.Analysis.{valueOf, condAlarmsOf, narrowOf}
+use Rattle.analysis.specs.Cuts.{variableOr, metIf, cutRowOf}
+use Rattle.analysis.specs.Arrays.{isSome, leftOf}
+use Rattle.analysis.proofs.CutLaws.{narrow-cuts, cut-written, cut-first-none}
 use Rattle.analysis.proofs.RowCodeLaws.{left-again}
 use Rattle.rules.specs.declared.Fits.{Fits}
 use Rattle.rules.specs.Held.{hasOf, withOf, withoutOf}
@@ -32,7 +40,9 @@ use Rattle.rules.specs.Proposal.{heldOf, rowAt, restAt}
 use Rattle.rules.specs.Outcomes.{Outcome, rowWithinOf, meetRowsOf, assigned, writtenOf, outcomeIf, onlyIf, outcomesBy, outcomesOf}
 use Rattle.rules.specs.Rules.{allOutcomes, locksFit, rowsFit, filed, writes, rule12, rule13, rule14}
 use Rattle.rules.specs.Alarms.{alarmsBy, alarmsIf, alarmsAt}
-use Rattle.rules.specs.Points.{sideOf, fitsBy, fitsAt}
+use Rattle.rules.specs.Points.{sideOf, testedOf, fitsBy, fitsAt}
+use Rattle.rules.specs.Ready.{Whole}
+use Rattle.rules.proofs.RowLaws.{written-once, slots-length, writtenRow, slots-within-is}
 
 abbrev fits : Bool → Bool → Bool → Fits
 fits locks flow write = record { locks = locks; flow = flow; write = write }
@@ -70,6 +80,62 @@ module _ (t w : List ℤ) where
   unfolding maybeBy
   side-some s q n r e g x f = rw (not-false n e) (one-side s q r g x f)
 
+  -- ---- a side of a test by a comparison: the row lows..highs, whose ends are all there, with the cuts u of v and x
+  module _ (s q v x : ℕ) (lows highs : List ℤ) (u : Cuts) where
+    abbrev cutSide : Fits
+    cutSide = sideOf t w (outcomeIf (cutRowOf (ownOf (rowOf lows highs)) v x u) s q)
+
+    -- the cuts, where there is a first one
+    written : {lo hi : ℤ} → (v ≡ x → v < 16) → u .left ≡ Between lo hi
+        → cutRowOf (ownOf (rowOf lows highs)) v x u
+        ≡ putOf (rowOf (set (slotsOf lows) v lo) (set (slotsOf highs) v hi)) x (metIf (eqb v x) (u .left) (u .right))
+    written {lo} {hi} d e = cut-written (ownOf (rowOf lows highs)) (slots-length lows) (slots-length highs) v x u lo hi d e
+
+    -- where the first cut leaves nothing, and where the second does
+    pub first-none : {y : Fits} → u .left ≡ None → y ≡ allFit → y ≡ cutSide
+    unfolding outcomeIf locksFit rowsFit allOutcomes
+    first-none e f = rw (cut-first-none (ownOf (rowOf lows highs)) v x u e) f
+
+    pub last-none : {lo hi : ℤ} {m : Interval} {y : Fits} → (v ≡ x → v < 16) → u .left ≡ Between lo hi → m ≡ metIf (eqb v x) (u .left) (u .right) → m ≡ None
+        → y ≡ allFit → y ≡ cutSide
+    unfolding putOf outcomeIf locksFit rowsFit allOutcomes
+    last-none d e g h f = rw (written d e, ← g, h) f
+
+    -- lo..hi and lo₂..hi₂ are the cuts, lo′ and so on the same as the code hands them on
+    pub both-left : {lo hi lo₂ hi₂ lo′ hi′ lo₂′ hi₂′ : ℤ} {m : Interval} {h n : ℕ} {low high : List ℤ} {flow : Bool} → Whole t lows highs → (v ≡ x → v < 16)
+        → u .left ≡ Between lo hi → m ≡ metIf (eqb v x) (u .left) (u .right) → m ≡ Between lo₂ hi₂ → lo′ ≡ lo → hi′ ≡ hi → lo₂′ ≡ lo₂ → hi₂′ ≡ hi₂
+        → h ≡ heldOf w q → RowRead q n low high → flow ≡ rowWithinOf n (writtenRow lows highs v lo′ hi′ x lo₂′ hi₂′) (rowOf low high)
+        → fits (eqb h s) flow true ≡ cutSide
+    unfolding putOf
+    both-left whole differ e g k a b c d held y f =
+        let few = whole .variables in
+        let size = y .variables in
+        rw (written differ e, ← g, k)
+        (one-side s q _ held y
+        (rw (a, b, c, d) at f
+        ∙ slots-within-is lows highs _ (rw size few) (omega (arith, size, whole .low)) (omega (arith, size, whole .high)) v _ _ x _ _ _))
+
+  -- ---- a side of any other test, by what narrowing left: whether there is a row, and the row
+  pub split-side : (m : Maybe) (s q : ℕ) {f : Bool} {r : Row} {y : Fits} → f ≡ isSome m → r ≡ leftOf m → y ≡ sideOf t w (outcomeIf (maybeBy f r) s q)
+      → y ≡ sideOf t w (outcomeIf m s q)
+  split-side m s q e g y = rw (← left-again m, ← e, ← g) y
+
+  -- ---- a comparison of a and b: a side, by the cuts that were made of their intervals i and j
+  pub compared-side :
+      (k : Comparison) (a b : Arith) (wanted : Bool) (s q : ℕ) (r : Row) {i j : Interval} {v x : ℕ} {u : Cuts} {y : Fits}
+      → i ≡ valueOf a (ownOf r) → j ≡ valueOf b (ownOf r) → v ≡ variableOr 16 a → x ≡ variableOr 17 b → u ≡ cutsOf k wanted i j
+      → y ≡ sideOf t w (outcomeIf (cutRowOf (ownOf r) v x u) s q) → y ≡ sideOf t w (outcomeIf (narrowOf (compare 0 k a b) wanted (ownOf r)) s q)
+  compared-side k a b wanted s q r e f g h c y =
+      let low = slots-length (r .lows) in
+      let high = slots-length (r .highs) in
+      rw (narrow-cuts 0 k a b wanted (ownOf r) (omega arith) (omega arith)) (rw (g, h, c, e, f) at y)
+
+  -- ---- both sides of a test by the condition c
+  pub both-fit : (c : Cond) (y n s : ℕ) (r : Row) {i o : Fits} → i ≡ sideOf t w (outcomeIf (narrowOf c true (ownOf r)) s y)
+      → o ≡ sideOf t w (outcomeIf (narrowOf c false (ownOf r)) s n) → fits (i .locks && o .locks) (i .flow && o .flow) true ≡ testedOf t w c y n s r
+  unfolding locksFit rowsFit
+  both-fit c y n s r e f = rw (e, f, all-append, all-append)
+
   module _ (p s : ℕ) (r : Row) where
     -- a point that writes nothing, by its outcomes
     by-outcomes : (x : Point) (l : List Outcome) {y : Fits} → outcomesBy t w x s r ≡ l → writes t w x p s r ≡ true → y ≡ sideOf t w l
@@ -94,22 +160,32 @@ module _ (t w : List ℤ) where
 
     -- lo and hi are the ends of what is written, lo′ and hi′ the same as the code hands them on
     pub assign-some : (v e q : ℕ) {nodes : List ℤ} {i : Interval} {lo hi lo′ hi′ : ℤ} {h n u : ℕ} {lows highs : List ℤ} {flow write : Bool}
-        → nodes ≡ nodesOf t → i ≡ valueOf (arithAt nodes e) (ownOf r) → i ≡ Between lo hi → lo′ ≡ lo → hi′ ≡ hi → h ≡ heldOf w q → RowRead q n lows highs
-        → flow ≡ rowWithinOf n (rowOf (set (r .lows) v lo′) (set (r .highs) v hi′)) (rowOf lows highs) → u ≡ taskOf t p
+        → Whole t (r .lows) (r .highs) → nodes ≡ nodesOf t → i ≡ valueOf (arithAt nodes e) (ownOf r) → i ≡ Between lo hi → lo′ ≡ lo → hi′ ≡ hi
+        → h ≡ heldOf w q → RowRead q n lows highs
+        → flow ≡ rowWithinOf n (writtenRow (r .lows) (r .highs) v lo′ hi′ 16 (pos 0) (pos 0)) (rowOf lows highs) → u ≡ taskOf t p
         → write ≡ filed t w u s v (Between lo′ hi′) → fits (eqb h s) flow write ≡ fitsBy t w (Assign v e q) p s r
     unfolding fitsBy outcomesBy writtenOf assigned writes
-    assign-some v e q {lo = lo} {hi = hi} f g x a b d y j k z =
+    assign-some v e q {lo = lo} {hi = hi} whole f g x a b d y j k z =
+        let low = written-once (r .lows) v 16 lo (pos 0) (omega (arith, whole .variables, whole .low)) in
+        let high = written-once (r .highs) v 16 hi (pos 0) (omega (arith, whole .variables, whole .high)) in
         rw (z, k, a, b, ← f, ← g, x)
-        (ap (λ (y : Fits). fits (y .locks) (y .flow) (filed t w (taskOf t p) s v (Between lo hi))) (one-side s q _ d y (rw (a, b) at j)))
+        (ap (λ (y : Fits). fits (y .locks) (y .flow) (filed t w (taskOf t p) s v (Between lo hi))) (one-side s q _ d y (rw (a, b, low, high) at j)))
 
     -- ---- a test
-    pub test-fits : (c y n : ℕ) {nodes : List ℤ} {a b : Row} {said : Split} {i o : Fits} → nodes ≡ nodesOf t → said ≡ splitOf (condAt nodes c) (ownOf r)
-        → a ≡ leftOf (narrowOf (condAt nodes c) true (ownOf r)) → b ≡ leftOf (narrowOf (condAt nodes c) false (ownOf r))
-        → i ≡ sideOf t w (outcomeIf (maybeBy (said .yes) a) s y) → o ≡ sideOf t w (outcomeIf (maybeBy (said .no) b) s n)
-        → fits (i .locks && o .locks) (i .flow && o .flow) true ≡ fitsBy t w (Test c y n) p s r
-    unfolding fitsBy outcomesBy writes locksFit rowsFit
-    test-fits c y n e d g j h k =
-        rw (h, k, rw e at d, rw e at g, rw e at j, left-again (narrowOf (condAt (nodesOf t) c) true (ownOf r)), left-again (narrowOf (condAt (nodesOf t) c) false (ownOf r)), all-append, all-append)
+    pub test-fits : (c y n : ℕ) {nodes : List ℤ} {o : Fits} → nodes ≡ nodesOf t → o ≡ testedOf t w (condAt nodes c) y n s r → o ≡ fitsBy t w (Test c y n) p s r
+    unfolding fitsBy outcomesBy writes
+    test-fits c y n e f = rw e at f
+
+    -- the same of a comparison, by the shape z that stands at the node c; m are the marks before, m′ those after
+    pub test-compared : (c y n : ℕ) (m : List ℕ) {nodes : List ℤ} {z : Shape} {k : Comparison} {a b : ℕ} {m′ : List ℕ} {o : Fits} → nodes ≡ nodesOf t → z ≡ shapeOf nodes c
+        → z ≡ Compare k a b
+        → (o ≡ testedOf t w (compare 0 k (arithAt nodes a) (arithAt nodes b)) y n s r)
+        × (m′ ≡ markedOf m (condAlarmsOf (compare 0 k (arithAt nodes a) (arithAt nodes b)) (ownOf r)))
+        → (o ≡ fitsBy t w (Test c y n) p s r) × (m′ ≡ markedOf m (alarmsBy t (Test c y n) r))
+    unfolding condBy narrowOf condAlarmsOf alarmsBy
+    test-compared c y n m {nodes} e g h f =
+        let is = cond-of nodes c (sym g ∙ h) in
+        (test-fits c y n e (rw is (f .0)), rw (← e, is) (f .1))
 
     -- ---- a lock
     pub lock-held : (m q : ℕ) {y : Fits} → hasOf s m ≡ true → y ≡ allFit → y ≡ fitsBy t w (Lock m q) p s r

@@ -1,21 +1,27 @@
 -- Rules 12, 13 and 14 at a point, and at the points of a range, together: one walk over the points settles all three.
 -- Assumes nothing.
 use Prim.Native.Nat.{ℕ}
-use mathlib.Core.Bool.{true}
-use mathlib.Core.List.{List}
+use mathlib.Core.Bool.{true, false}
+use mathlib.Core.List.{List, _++_}
 use lib.IntN.{ℤ}
 use Rattle.words.specs.First.{orElse, unless}
+use Rattle.table.specs.Tree.{Cond}
 use Rattle.table.specs.declared.Point.{Point}
-use Rattle.analysis.specs.Rows.{Row}
+use Rattle.analysis.specs.Rows.{Row, ownOf}
+use Rattle.analysis.specs.Analysis.{narrowOf}
 use Rattle.rules.specs.declared.Fits.{Fits}
 use Rattle.rules.specs.declared.Faults.{Faults}
-use Rattle.rules.specs.Outcomes.{Outcome, outcomesBy}
+use Rattle.rules.specs.Outcomes.{Outcome, outcomeIf, outcomesBy}
 use Rattle.rules.specs.Rules.{locksFit, rowsFit, writes, rule12, rule13, rule14}
 use Rattle.rules.specs.Examine.{places, firstBadIn}
 
 -- whether outcomes keep to rules 12 and 13
 abbrev pub sideOf : List ℤ → List ℤ → List Outcome → Fits
 sideOf t w l = record { locks = locksFit w l; flow = rowsFit t w l; write = true }
+
+-- those of a test by the condition c, which goes on at y or at n, on the row r
+abbrev pub testedOf : List ℤ → List ℤ → Cond → ℕ → ℕ → ℕ → Row → Fits
+testedOf t w c y n s r = sideOf t w (outcomeIf (narrowOf c true (ownOf r)) s y ++ outcomeIf (narrowOf c false (ownOf r)) s n)
 
 -- by what stands at the reached point p, its held set s and its row r
 unfoldable pub fitsBy : List ℤ → List ℤ → Point → ℕ → ℕ → Row → Fits

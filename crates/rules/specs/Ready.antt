@@ -33,6 +33,12 @@ pub record Rows (t w low high : List ℤ) : Type 0 where
   pub lows : low ≡ lowsOf t w
   pub highs : high ≡ highsOf t w
 
+-- a row has an interval for each variable of the table, and no more than a row can have
+pub record Whole (t lows highs : List ℤ) : Type 0 where
+  pub variables : sizesOf t .variables ≤ 16
+  pub low : length lows ≡ sizesOf t .variables
+  pub high : length highs ≡ sizesOf t .variables
+
 -- the entries and the rows are
 pub record Parts (t w h from to low high : List ℤ) : Type 0 where
   pub apart : Apart t w h from to

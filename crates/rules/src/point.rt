@@ -13,29 +13,40 @@ use crate::rows::met_within;
 use crate::rows::row_within;
 use crate::rows::written_within;
 use analysis::Row;
-use analysis::evaluate::sides_on;
+use analysis::evaluate::sides;
 use analysis::evaluate::value_on;
+use analysis::narrow::met_if;
+use analysis::narrow::variable_or;
 use analysis::rows::high_ends;
 use analysis::rows::low_ends;
+use analysis::rows::own;
+use interval::Comparison;
+use interval::Cuts;
 use interval::Interval;
+use interval::narrow::cuts;
 use table::Point;
+use table::Shape;
 use table::decode::point_at;
+use table::decode::shape_at;
 use table::layout::task_of;
 use words::number_at;
 ghost use mathlib.Core.Path.{_≡_};
-ghost use mathlib.Core.Bool.{true};
+ghost use mathlib.Core.Bool.{true, _&&_};
 ghost use Prim.Native.Nat.{_<_, _≤_};
 ghost use Rattle.table.specs.Layout.{sizesOf, pointsOf, nodesOf};
 ghost use Rattle.table.specs.Decode.{pointOf};
+ghost use Rattle.table.specs.Tree.{compare, arithAt, condAt};
 ghost use Rattle.table.specs.declared.Point.the-variants.{Assign, Test, Lock, Unlock};
-ghost use Rattle.analysis.specs.Rows.{rowOf, maybeBy};
+ghost use Rattle.analysis.specs.Rows.{rowOf, ownOf, maybeBy};
 ghost use Rattle.analysis.specs.Arrays.{rowIn};
 ghost use Rattle.analysis.specs.Alarms.{markedOf};
+ghost use Rattle.analysis.specs.Analysis.{condAlarmsOf};
+ghost use Rattle.analysis.specs.Cuts.{cutRowOf};
 ghost use Rattle.rules.specs.Proposal.{rowAt};
 ghost use Rattle.rules.specs.Outcomes.{outcomeIf};
 ghost use Rattle.rules.specs.Alarms.{alarmsBy, alarmsAt};
-ghost use Rattle.rules.specs.Ready.{Bounded, Rows, Ready};
-ghost use Rattle.rules.specs.Points.{sideOf, fitsBy, fitsAt};
+ghost use Rattle.rules.specs.Ready.{Bounded, Rows, Whole, Ready};
+ghost use Rattle.rules.specs.Points.{sideOf, testedOf, fitsBy, fitsAt};
 
 // Where there is no outcome and nothing is written, nothing fails.
 fn no_outcome() -> Fits
@@ -48,7 +59,8 @@ fn no_outcome() -> Fits
     }
 }
 
-// An assignment of the node e to v, going on at q: the expression is evaluated once, for its alarms and for what is written.
+// An assignment of the node e to v, going on at q: the expression is evaluated once, for its alarms and for what is written. One interval is written:
+// 16 is past every row.
 fn assign_fits<'a, 'b>(
     t: &'a [i32],
     w: &'a [i32],
@@ -66,6 +78,7 @@ fn assign_fits<'a, 'b>(
 ) -> Fits
     requires { ⌜ Ready (now t) (now w) ⌝ }
     requires { ⌜ Rows (now t) (now w) (now «all_lows») (now «all_highs») ⌝ }
+    requires { ⌜ Whole (now t) (now lows) (now highs) ⌝ }
     requires { ⌜ now nodes ≡ nodesOf (now t) ⌝ }
     requires { ⌜ q ≤ 4294967295 ⌝ }
     ensures { λ r. ⌜ r ≡ fitsBy (now (t .entry)) (now (w .entry)) (Assign v e q) p s (rowOf (now (lows .entry)) (now (highs .entry))) ⌝ }
@@ -83,6 +96,9 @@ fn assign_fits<'a, 'b>(
             v,
             low,
             high,
+            16,
+            0,
+            0,
             row_lows(t, w, all_lows, q),
             row_highs(t, w, all_highs, q),
             number_at(t, 1),
@@ -122,7 +138,130 @@ fn side<'a>(
     }
 }
 
-// A test of the condition c, going on at yes or at no: the condition is evaluated once, for its alarms and for both sides.
+// Both sides of a test.
+fn both_sides(taken: Fits, other: Fits) -> Fits
+    ensures { λ r. ⌜ r ≡ record { locks = taken .locks && other .locks; flow = taken .flow && other .flow; write = true } ⌝ }
+{
+    Fits {
+        locks: taken.locks & other.locks,
+        flow: taken.flow & other.flow,
+        write: true,
+    }
+}
+
+// A side of a test by a comparison, by the cuts u of its variables v and x. No row is made: the target's row is compared with the point's, in which both
+// intervals are written.
+fn cut_side<'a>(
+    t: &'a [i32],
+    w: &'a [i32],
+    all_lows: &'a [i32],
+    all_highs: &'a [i32],
+    s: usize,
+    q: usize,
+    lows: &'a [i32],
+    highs: &'a [i32],
+    v: usize,
+    x: usize,
+    u: Cuts,
+) -> Fits
+    requires { ⌜ Rows (now t) (now w) (now «all_lows») (now «all_highs») ⌝ }
+    requires { ⌜ Whole (now t) (now lows) (now highs) ⌝ }
+    requires { ⌜ q ≤ 4294967295 ⌝ }
+    requires { ⌜ ((v ≡ x) → (v < 16)) ⌝ }
+    ensures { λ r. ⌜ r ≡ sideOf (now (t .entry)) (now (w .entry)) (outcomeIf (cutRowOf (ownOf (rowOf (now (lows .entry)) (now (highs .entry)))) v x u) s q) ⌝ }
+{
+    let left = u.left;
+    let right = u.right;
+    let last = met_if(v == x, left, right);
+    let Interval::Between(low, high) = left else {
+        return no_outcome();
+    };
+    let Interval::Between(last_low, last_high) = last else {
+        return no_outcome();
+    };
+    Fits {
+        locks: held(w, q) == s,
+        flow: written_within(
+            lows,
+            highs,
+            v,
+            low,
+            high,
+            x,
+            last_low,
+            last_high,
+            row_lows(t, w, all_lows, q),
+            row_highs(t, w, all_highs, q),
+            number_at(t, 1),
+        ),
+        write: true,
+    }
+}
+
+// A test by a comparison of the nodes a and b, going on at y or at n.
+fn compared_fits<'a, 'b>(
+    t: &'a [i32],
+    w: &'a [i32],
+    nodes: &'a [i32],
+    all_lows: &'a [i32],
+    all_highs: &'a [i32],
+    s: usize,
+    lows: &'a [i32],
+    highs: &'a [i32],
+    k: Comparison,
+    a: usize,
+    b: usize,
+    y: usize,
+    n: usize,
+    marks: &'b mut [u8],
+) -> Fits
+    requires { ⌜ Rows (now t) (now w) (now «all_lows») (now «all_highs») ⌝ }
+    requires { ⌜ Whole (now t) (now lows) (now highs) ⌝ }
+    requires { ⌜ (y ≤ 4294967295) × (n ≤ 4294967295) ⌝ }
+    ensures { λ r. ⌜ r ≡ testedOf (now (t .entry)) (now (w .entry)) (compare 0 k (arithAt (now (nodes .entry)) a) (arithAt (now (nodes .entry)) b)) y n s (rowOf (now (lows .entry)) (now (highs .entry))) ⌝ }
+    ensures { λ r. ⌜ now (marks .exit) ≡ markedOf (now (marks .entry)) (condAlarmsOf (compare 0 k (arithAt (now (nodes .entry)) a) (arithAt (now (nodes .entry)) b)) (ownOf (rowOf (now (lows .entry)) (now (highs .entry))))) ⌝ }
+{
+    let left = value_on(nodes, a, lows, highs, marks);
+    let right = value_on(nodes, b, lows, highs, marks);
+    let v = variable_or(nodes, a, 16);
+    let x = variable_or(nodes, b, 17);
+    let yes = cuts(k, true, left, right);
+    let no = cuts(k, false, left, right);
+    let taken = cut_side(t, w, all_lows, all_highs, s, y, lows, highs, v, x, yes);
+    let other = cut_side(t, w, all_lows, all_highs, s, n, lows, highs, v, x, no);
+    both_sides(taken, other)
+}
+
+// A test by any condition c. It is evaluated once, for its alarms and for the rows of both sides, which are made here.
+fn split_fits<'a, 'b>(
+    t: &'a [i32],
+    w: &'a [i32],
+    nodes: &'a [i32],
+    all_lows: &'a [i32],
+    all_highs: &'a [i32],
+    s: usize,
+    lows: &'a [i32],
+    highs: &'a [i32],
+    c: usize,
+    y: usize,
+    n: usize,
+    marks: &'b mut [u8],
+) -> Fits
+    requires { ⌜ Rows (now t) (now w) (now «all_lows») (now «all_highs») ⌝ }
+    requires { ⌜ (y ≤ 4294967295) × (n ≤ 4294967295) ⌝ }
+    ensures { λ r. ⌜ r ≡ testedOf (now (t .entry)) (now (w .entry)) (condAt (now (nodes .entry)) c) y n s (rowOf (now (lows .entry)) (now (highs .entry))) ⌝ }
+    ensures { λ r. ⌜ now (marks .exit) ≡ markedOf (now (marks .entry)) (condAlarmsOf (condAt (now (nodes .entry)) c) (ownOf (rowOf (now (lows .entry)) (now (highs .entry))))) ⌝ }
+{
+    let row = own(lows, highs);
+    let mut yes = [0i32; 32];
+    let mut no = [0i32; 32];
+    let said = sides(nodes, c, &row, marks, &mut yes, &mut no);
+    let taken = side(t, w, all_lows, all_highs, s, y, said.yes, &yes);
+    let other = side(t, w, all_lows, all_highs, s, n, said.no, &no);
+    both_sides(taken, other)
+}
+
+// A test of the condition c, going on at y or at n.
 fn test_fits<'a, 'b>(
     t: &'a [i32],
     w: &'a [i32],
@@ -139,20 +278,44 @@ fn test_fits<'a, 'b>(
     marks: &'b mut [u8],
 ) -> Fits
     requires { ⌜ Rows (now t) (now w) (now «all_lows») (now «all_highs») ⌝ }
+    requires { ⌜ Whole (now t) (now lows) (now highs) ⌝ }
     requires { ⌜ now nodes ≡ nodesOf (now t) ⌝ }
     requires { ⌜ (y ≤ 4294967295) × (n ≤ 4294967295) ⌝ }
     ensures { λ r. ⌜ r ≡ fitsBy (now (t .entry)) (now (w .entry)) (Test c y n) p s (rowOf (now (lows .entry)) (now (highs .entry))) ⌝ }
     ensures { λ r. ⌜ now (marks .exit) ≡ markedOf (now (marks .entry)) (alarmsBy (now (t .entry)) (Test c y n) (rowOf (now (lows .entry)) (now (highs .entry)))) ⌝ }
 {
-    let mut yes = [0i32; 32];
-    let mut no = [0i32; 32];
-    let said = sides_on(nodes, c, lows, highs, marks, &mut yes, &mut no);
-    let taken = side(t, w, all_lows, all_highs, s, y, said.yes, &yes);
-    let other = side(t, w, all_lows, all_highs, s, n, said.no, &no);
-    Fits {
-        locks: taken.locks & other.locks,
-        flow: taken.flow & other.flow,
-        write: true,
+    let shape = shape_at(nodes, c);
+    match shape {
+        Shape::Compare(k, a, b) => compared_fits(
+            t,
+            w,
+            nodes,
+            all_lows,
+            all_highs,
+            s,
+            lows,
+            highs,
+            k,
+            a,
+            b,
+            y,
+            n,
+            marks,
+        ),
+        _ => split_fits(
+            t,
+            w,
+            nodes,
+            all_lows,
+            all_highs,
+            s,
+            lows,
+            highs,
+            c,
+            y,
+            n,
+            marks,
+        ),
     }
 }
 

@@ -1,19 +1,19 @@
-// Whether a row lies within another: as it is, with one interval written, and met with a third.
+// Whether a row lies within another: as it is, with one or two intervals written, and met with a third.
 use analysis::rows::range;
 use interval::Interval;
 use interval::lattice::between;
 use interval::lattice::is_none;
 use interval::lattice::meet;
 use interval::lattice::within;
-use words::word;
 ghost use mathlib.Core.Path.{_≡_};
 ghost use mathlib.Core.Bool.{not, _&&_};
-ghost use lib.ListN.{set};
+ghost use Prim.Native.Nat.{_<_, _≤_};
+ghost use lib.ListN.{length, set};
 ghost use lib.Signed.{leZ};
 ghost use Rattle.words.specs.Words.{wordOf};
 ghost use Rattle.words.specs.First.{allBelow};
 ghost use Rattle.interval.specs.Integer.{minZ, maxZ};
-ghost use Rattle.interval.specs.Lattice.{isNoneOf, withinOf, meetOf};
+ghost use Rattle.interval.specs.Lattice.{isNoneOf, meetOf};
 ghost use Rattle.analysis.specs.Rows.{rowOf, rangeOf, each};
 ghost use Rattle.rules.specs.Outcomes.{rowWithinOf};
 
@@ -44,36 +44,42 @@ pub(crate) fn row_within<'a>(
     true
 }
 
-// The word at an index, where the word z is written at v.
-fn written_word(ws: &[i32], v: usize, z: i32, i: usize) -> i32
-    ensures { λ r. ⌜ r ≡ wordOf (set (now (ws .entry)) v z) i ⌝ }
+// The word at the index i, where a is written at v, and then b at x.
+fn written_word(ws: &[i32], v: usize, a: i32, x: usize, b: i32, i: usize) -> i32
+    requires { ⌜ i < length (now ws) ⌝ }
+    ensures { λ r. ⌜ r ≡ wordOf (set (set (now (ws .entry)) v a) x b) i ⌝ }
 {
-    if i == v {
-        if i < ws.len() {
-            return z;
-        }
+    if i == x {
+        return b;
     }
-    word(ws, i)
+    if i == v {
+        return a;
+    }
+    ws[i]
 }
 
-// The same of the row a with low..high written at the variable at. The row isn't copied.
+// The same of the row a with low..high written at the variable at, and then last_low..last_high at last. The row isn't copied.
 pub(crate) fn written_within<'a>(
     a_lows: &'a [i32],
     a_highs: &'a [i32],
     at: usize,
     low: i32,
     high: i32,
+    last: usize,
+    last_low: i32,
+    last_high: i32,
     b_lows: &'a [i32],
     b_highs: &'a [i32],
     variables: usize,
 ) -> bool
-    ensures { λ r. ⌜ r ≡ rowWithinOf variables (rowOf (set (now («a_lows» .entry)) at low) (set (now («a_highs» .entry)) at high)) (rowOf (now («b_lows» .entry)) (now («b_highs» .entry))) ⌝ }
+    requires { ⌜ (variables ≤ length (now «a_lows»)) × (variables ≤ length (now «a_highs»)) ⌝ }
+    ensures { λ r. ⌜ r ≡ rowWithinOf variables (rowOf (set (set (now («a_lows» .entry)) at low) last «last_low») (set (set (now («a_highs» .entry)) at high) last «last_high»)) (rowOf (now («b_lows» .entry)) (now («b_highs» .entry))) ⌝ }
 {
     let mut v = 0;
     while v < variables {
         let x = between(
-            written_word(a_lows, at, low, v),
-            written_word(a_highs, at, high, v),
+            written_word(a_lows, at, low, last, last_low, v),
+            written_word(a_highs, at, high, last, last_high, v),
         );
         if !within(x, range(b_lows, b_highs, v)) {
             return false;

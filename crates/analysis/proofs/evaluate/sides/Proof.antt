@@ -1,12 +1,23 @@
--- `analysis::evaluate::sides` meets its contract: a row in an array has its sixteen slots already.
+-- `analysis::evaluate::sides` meets its contract: both rows are copies when the condition narrows them, and where it left none they are cleared.
 -- Assumes nothing.
-use mathlib.Core.Path.{_≡_}
-use lib.ListN.{length}
+use mathlib.Core.Path.{ap, _∙_}
 use borrow.Author.Needs.{needs}
-use denote.Ref.{now}
-use Rattle.analysis.proofs.RowCodeLaws.{own-again}
+use Rattle.analysis.specs.Arrays.{leftOf}
+use Rattle.analysis.proofs.WalkLaws.{split-is}
 use Rattle.analysis.proofs.evaluate.sides.Statement.{statement}
 use Rattle.analysis.proofs.evaluate.sides.Tie as tie
+
+returns : tie.Need-returns
+returns c =
+    let yes = c .before .before in
+    let said = yes .before .before .before .before .split in
+    let narrowed = said .ensures .1 in (
+      split-is _ _ (said .result) _ _ (said .ensures .0) (narrowed .0) (narrowed .1 .0),
+      (
+        yes .clear-unless .ensures ∙ ap leftOf (narrowed .0),
+        (c .clear-unless2 .ensures ∙ ap leftOf (narrowed .1 .0), narrowed .1 .1),
+      ),
+    )
 
 pub sides-spec : {M : Type 1} → statement M
 sides-spec =
@@ -16,9 +27,4 @@ sides-spec =
     (λ c κs. search needs)
     (λ c κs. search needs)
     (λ c. search needs)
-    (λ c.
-    let said = c .before .before in
-    let highs = said .before .before .before .before in
-    let lows = highs .before .before in
-    let long : length (now (lows .before .before .before .args .row)) ≡ 32 = search needs in
-    rw (lows .low-ends .ensures, highs .high-ends .ensures, own-again _ long) at (said .sides-on .ensures)))
+    returns)

@@ -1,6 +1,10 @@
 -- `rules::point::assign_fits` meets its contract: the walk of the expression gives the marks and the interval, which decides whether there is an
 -- outcome and what is to be filed. Assumes nothing.
+use Prim.Native.Nat.{_≤_}
+use native.Mathlib.Omega.{arith}
 use borrow.Author.Needs.{needs}
+use denote.Ref.{now}
+use lib.ListN.{length}
 use Rattle.words.proofs.Signed.{read-back}
 use Rattle.rules.specs.Alarms.{alarmsBy}
 use Rattle.rules.proofs.PointLaws.{assign-none, assign-some}
@@ -12,7 +16,7 @@ unfolding alarmsBy
 nothing c =
     let told = c .before in
     let walk = told .before .before .before .before in
-    let nodes = walk .before .before .before .pre .1 .1 .0 in
+    let nodes = walk .before .before .before .pre .1 .1 .1 .0 in
     let valued = walk .value-on .ensures in (
       assign-none _ _ _ _ _ _ _ _ nodes (valued .0) (told .enum-told .given .1) (c .no-outcome .ensures),
       rw nodes at (valued .1),
@@ -29,15 +33,26 @@ written c =
     let told = held .before in
     let matched = told .before in
     let walk = matched .before .before .before .before in
-    let nodes = walk .before .before .before .pre .1 .1 .0 in
+    let given = walk .before .before .before .pre .1 .1 in
+    let nodes = given .1 .0 in
     let valued = walk .value-on .ensures in
     let low = read-back {z = matched .x .given .0 .0} (told .known-told .given .0 .1) in
     let high = read-back {z = matched .x .given .0 .1 .0} (told .known-told .given .1 .0 .1) in (
-      assign-some _ _ _ _ _ _ _ _ nodes (valued .0) (matched .x .given .1) low high (held .held .ensures .0)
+      assign-some _ _ _ _ _ _ _ _ (given .0) nodes (valued .0) (matched .x .given .1) low high (held .held .ensures .0)
           (record { variables = flow .before .number-at .ensures .0; low = lows .row-lows .ensures; high = highs .row-highs .ensures })
           (flow .written-within .ensures) (task .task-of .ensures) (c .is-filed .ensures),
       rw nodes at (valued .1),
     )
+
+-- there are as many ends as variables
+fits : tie.Need-written-within-requires
+fits c κs =
+    let start = c .before .before .before .before .before .before .before .before .before .before .before .before in
+    let whole = start .pre .1 .1 .0 in
+    let size = c .number-at .ensures .0 in
+    let low : c .number-at .result ≤ length (now (start .args .lows)) = omega (arith, size, whole .low) in
+    let high : c .number-at .result ≤ length (now (start .args .highs)) = omega (arith, size, whole .high) in
+    (low, high)
 
 pub assign-fits-spec : {M : Type 1} → statement M
 assign-fits-spec =
@@ -53,7 +68,7 @@ assign-fits-spec =
     (λ c κs. search needs)
     (λ c κs. search needs)
     (λ c κs. search needs)
-    (λ c κs. search needs)
+    fits
     (λ c κs. search needs)
     (λ c κs. c .before .before .before .before .before .before .before .before .before .before .before .before .before .before .pre .0)
     (λ c. search needs)

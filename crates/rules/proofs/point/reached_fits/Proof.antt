@@ -3,6 +3,7 @@
 use Prim.Native.Nat.{ℕ}
 use mathlib.Core.Path.{_≡_, refl}
 use mathlib.Core.List.{List}
+use native.Mathlib.Omega.{arith}
 use borrow.Author.Needs.{needs}
 use denote.Ref.{now}
 use Rattle.table.specs.Passes.{FormedPoint}
@@ -12,6 +13,8 @@ use Rattle.analysis.specs.Alarms.{markedOf}
 use Rattle.rules.specs.declared.Fits.{Fits}
 use Rattle.rules.specs.Alarms.{alarmsBy}
 use Rattle.rules.specs.Points.{fitsBy}
+use Rattle.rules.specs.Ready.{Whole}
+use Rattle.rules.proofs.PartsLaws.{row-whole}
 use Rattle.rules.proofs.PointLaws.{Reached, stands, end-fits}
 use Rattle.rules.proofs.ReadyLaws.{formed, target-fits, mutex-fits}
 use Rattle.rules.proofs.point.reached_fits.Statement.{statement}
@@ -36,6 +39,13 @@ arm c e f g =
 names : (c : tie.After-point-at) {x : Point} → let s = start c in c .point-at .result ≡ x → FormedPoint (now (s .args .t)) (s .args .p) x
 names c e = let pre = start c .pre in formed (pre .0 .passes) _ (pre .1 .1 .1 .1 .0) (pre .1 .1 .0) (c .point-at .ensures) e
 
+-- all ends of its row are there
+whole : (c : tie.After-point-at) → Whole (now (start c .args .t)) (now (c .before .before .row-lows .result)) (now (c .before .row-highs .result))
+whole c =
+    let pre = start c .pre in
+    let highs = c .before in
+    row-whole (pre .0) _ (omega (arith, pre .1 .1 .1 .1 .0)) (highs .before .row-lows .ensures) (highs .row-highs .ensures)
+
 assign-requires : tie.Need-assign-fits-requires
 unfolding FormedPoint
 assign-requires c κs =
@@ -43,7 +53,7 @@ assign-requires c κs =
     let at = x .before .before in
     let pre = start at .pre in
     let passes = pre .0 .passes in
-    (pre .0, (pre .1 .0, (pre .1 .1 .1 .0, target-fits passes (names at (x .x .given .1) .2))))
+    (pre .0, (pre .1 .0, (whole at, (pre .1 .1 .1 .0, target-fits passes (names at (x .x .given .1) .2)))))
 
 test-requires : tie.Need-test-fits-requires
 unfolding FormedPoint
@@ -53,7 +63,7 @@ test-requires c κs =
     let pre = start at .pre in
     let passes = pre .0 .passes in
     let named = names at (x .x2 .given .1) in
-    (pre .1 .0, (pre .1 .1 .1 .0, (target-fits passes (named .1), target-fits passes (named .2))))
+    (pre .1 .0, (whole at, (pre .1 .1 .1 .0, (target-fits passes (named .1), target-fits passes (named .2)))))
 
 lock-requires : tie.Need-lock-fits-requires
 unfolding FormedPoint

@@ -1,29 +1,34 @@
--- `rules::point::test_fits` meets its contract: one walk of the condition gives the marks and both rows, and each row the outcome of its side.
+-- `rules::point::test_fits` meets its contract: whether the condition is a comparison picks the function that tests it.
 -- Assumes nothing.
 use borrow.Author.Needs.{needs}
 use Rattle.rules.specs.Alarms.{alarmsBy}
-use Rattle.rules.proofs.PointLaws.{test-fits}
+use Rattle.rules.proofs.PointLaws.{test-fits, test-compared}
 use Rattle.rules.proofs.point.test_fits.Statement.{statement}
 use Rattle.rules.proofs.point.test_fits.Tie as tie
 
-returns : tie.Need-returns
+compared : tie.Need-returns
+compared c =
+    let done = c .before .before in
+    let arm = done .before .before .before in
+    let read = arm .before .before in
+    test-compared _ _ _ _ _ _ _ _ _ (read .before .before .pre .1 .1 .0) (read .shape-at .ensures) (arm .shape .given .1) (done .compared-fits .ensures)
+
+split : tie.Need-returns-2
 unfolding alarmsBy
-returns c =
-    let other = c .before .before .before .before in
-    let taken = other .before .before in
-    let said = taken .before .before .before .before in
-    let nodes = said .before .before .before .before .before .pre .1 .0 in
-    let left = said .sides-on .ensures .1 in (
-      test-fits _ _ _ _ _ _ _ _ nodes (said .sides-on .ensures .0) (left .0) (left .1 .0) (taken .side .ensures) (other .side2 .ensures),
-      rw nodes at (left .1 .1),
-    )
+split c =
+    let done = c .before .before in
+    let nodes = done .before .before .before .before .before .pre .1 .1 .0 in
+    (test-fits _ _ _ _ _ _ _ _ nodes (done .split-fits .ensures .0), rw nodes at (done .split-fits .ensures .1))
 
 pub test-fits-spec : {M : Type 1} → statement M
 test-fits-spec =
     tie.close
     (tie.spec
     (λ c κs. search needs)
-    (λ c κs. let pre = c .before .before .before .before .before .before .before .before .pre in (pre .0, pre .1 .1 .0))
-    (λ c κs. let pre = c .before .before .before .before .before .before .before .before .before .before .pre in (pre .0, pre .1 .1 .1))
     (λ c. search needs)
-    returns)
+    (λ c κs. let pre = c .before .before .before .before .before .before .pre in (pre .0, (pre .1 .0, pre .1 .1 .1)))
+    (λ c κs. let pre = c .before .before .before .before .pre in (pre .0, pre .1 .1 .1))
+    (λ c. search needs)
+    compared
+    (λ c. search needs)
+    split)

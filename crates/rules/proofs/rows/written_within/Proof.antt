@@ -3,7 +3,6 @@
 use Prim.Native.Nat.{_-_}
 use mathlib.Core.Path.{sym}
 use borrow.Author.Needs.{needs}
-use lib.ListN.{set}
 use mir.Syntax.{w32}
 use mir.Val.{toZ}
 use mir.Facts.{toZ-ofZ}
@@ -11,16 +10,16 @@ use Rattle.words.proofs.Bools.{fails-not, holds-not}
 use Rattle.words.proofs.FirstLaws.{Checked, check, checks, checked}
 use Rattle.analysis.specs.Rows.{rowOf}
 use Rattle.rules.specs.Outcomes.{rowWithinOf}
-use Rattle.rules.proofs.RowLaws.{between-is, Lies, within-is, fails-in}
+use Rattle.rules.proofs.RowLaws.{between-is, Lies, within-is, fails-in, writtenRow}
 use Rattle.rules.proofs.rows.written_within.Statement.{statement}
 use Rattle.rules.proofs.rows.written_within.Tie as tie
 
 abbrev Inv-loop : tie.InvT-loop
-Inv-loop a-lows a-highs at low high b-lows b-highs variables v₀ v =
-    Checked (Lies (rowOf (set a-lows at (toZ w32 low)) (set a-highs at (toZ w32 high))) (rowOf b-lows b-highs)) variables v
+Inv-loop a-lows a-highs at low high last last-low last-high b-lows b-highs variables v₀ v =
+    Checked (Lies (writtenRow a-lows a-highs at (toZ w32 low) (toZ w32 high) last (toZ w32 last-low) (toZ w32 last-high)) (rowOf b-lows b-highs)) variables v
 
 abbrev μ-loop : tie.MeasureT-loop
-μ-loop a-lows a-highs at low high b-lows b-highs variables v₀ v = variables - v
+μ-loop a-lows a-highs at low high last last-low last-high b-lows b-highs variables v₀ v = variables - v
 
 outside : tie.Need-returns Inv-loop μ-loop
 unfolding rowWithinOf
@@ -36,7 +35,7 @@ outside c =
     let fails =
     fails-in (turn .before .loop .inv) (turn .loop-test .taken)
     (fails-not (within-is (test .within .ensures) x (other .range .ensures)) (c .if1 .taken)) in
-    rw (toZ-ofZ (fits .low), toZ-ofZ (fits .high)) at fails
+    rw (toZ-ofZ (fits .low), toZ-ofZ (fits .high), toZ-ofZ (fits .last-low), toZ-ofZ (fits .last-high)) at fails
 
 inside : tie.Need-loop-again Inv-loop μ-loop
 inside c =
@@ -54,7 +53,7 @@ done : tie.Need-returns-2 Inv-loop μ-loop
 unfolding rowWithinOf
 done c =
     let fits = c .before .before .fits in
-    rw (toZ-ofZ (fits .low), toZ-ofZ (fits .high)) at (sym (checked (c .before .loop .inv) (c .loop-test .left)))
+    rw (toZ-ofZ (fits .low), toZ-ofZ (fits .high), toZ-ofZ (fits .last-low), toZ-ofZ (fits .last-high)) at (sym (checked (c .before .loop .inv) (c .loop-test .left)))
 
 pub written-within-spec : {M : Type 1} → statement M
 unfolding rowWithinOf

@@ -1,27 +1,30 @@
--- `rules::rows::written_word` meets its contract: the word written where it is asked for and there is such a word, else the word that is there.
+-- `rules::rows::written_word` meets its contract: the last word written at the index, else the word that is there.
 -- Assumes nothing.
 use mathlib.Core.Path.{sym, _∙_}
-use mathlib.Core.Logic.{⊎-elim}
 use denote.Ref.{now}
 use mir.Facts.{toZ-ofZ}
 use borrow.Author.Needs.{needs}
-use Rattle.interval.proofs.MachineArithmetic.{handed32}
-use Rattle.rules.proofs.RowLaws.{written-here, written-past, written-other}
+use Rattle.rules.proofs.RowLaws.{written-last, written-first, written-neither}
 use Rattle.rules.proofs.rows.written_word.Statement.{statement}
 use Rattle.rules.proofs.rows.written_word.Tie as tie
 
-written : tie.Need-returns
-written c =
-    let s = c .before .before in
-    toZ-ofZ (s .fits .z) ∙ sym (written-here (now (s .args .ws)) (s .args .z) (c .before .if1 .taken) (c .if2 .taken))
+last : tie.Need-returns
+last c =
+    let s = c .before in
+    let a = s .args in
+    toZ-ofZ (s .fits .b) ∙ sym (written-last (now (a .ws)) (a .v) (a .x) (a .a) (a .b) (s .pre) (c .if1 .taken))
 
-read : tie.Need-returns-2
+first : tie.Need-returns-2
+first c =
+    let s = c .before .before in
+    let a = s .args in
+    toZ-ofZ (s .fits .a) ∙ sym (written-first (now (a .ws)) (a .v) (a .x) (a .a) (a .b) (s .pre) (c .before .if1 .left) (c .if2 .taken))
+
+read : tie.Need-returns-3
 read c =
-    let a = c .before .before .args in
-    handed32 (c .word .ensures) (c .word .ok)
-    ∙ sym
-    (⊎-elim (λ past. written-past (now (a .ws)) (a .z) (past .0 .taken) (past .1 .left)) (λ other. written-other (now (a .ws)) (a .z) (other .left))
-    (c .before .if1 .came))
+    let s = c .before .before .before in
+    let a = s .args in
+    search needs ∙ sym (written-neither (now (a .ws)) (a .v) (a .x) (a .a) (a .b) (s .pre) (c .before .before .if1 .left) (c .before .if2 .left))
 
 pub written-word-spec : {M : Type 1} → statement M
-written-word-spec = tie.close (tie.spec written (λ c κs. search needs) read)
+written-word-spec = tie.close (tie.spec last first (λ c. search needs) (λ c. search needs) read)

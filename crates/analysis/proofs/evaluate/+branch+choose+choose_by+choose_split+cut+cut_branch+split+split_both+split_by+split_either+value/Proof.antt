@@ -1,47 +1,62 @@
 -- The functions of `analysis::evaluate` that call each other meet their contracts: at each shape the calls on the children, whose numbers are smaller,
 -- and the operation that joins their results are one step of the tree's definition, the marks are made in the order of its alarms, and each row is
--- what the call before left in its place. Four times the node's number falls at each call, with one or two more for the functions that call others on
+-- what the call before left in its place. Eight times the node's number falls at each call, with one to four more for the functions that call others on
 -- their own nodes.
 -- Assumes nothing.
 use mathlib.Core.Path.{refl, sym, _∙_}
 use native.Mathlib.Omega.{arith}
+use borrow.Author.Tests.{not-true, not-false}
 use Rattle.interval.proofs.MachineArithmetic.{handed32}
 use Rattle.words.proofs.Signed.{read-back}
 use Rattle.table.specs.Tree.{arithBy}
 use Rattle.table.proofs.TreeLaws.{children-of}
-use Rattle.analysis.proofs.WalkLaws.{branch-taken, branch-left-out, constant-valued, input-valued, variable-valued, negation-valued, binary-valued, choice-valued, chosen, no-value, both-splits, either-splits, cut-leaves, compare-splits, both-node-splits, either-node-splits, not-splits, no-splits, copy-known}
+use Rattle.analysis.proofs.WalkLaws.{branch-taken, branch-left-out, constant-valued, input-valued, variable-valued, negation-valued, binary-valued, choice-valued, chosen, cut-left-out, cut-taken, chosen-by, choice-by, no-value, both-splits, either-splits, cut-leaves, compare-splits, both-node-splits, either-node-splits, not-splits, no-splits, copy-known}
+use Rattle.analysis.specs.Arrays.{rowIn}
+use Rattle.analysis.proofs.RowCodeLaws.{few-lows, few-highs}
 use Prim.Native.Nat.{ℕ, _+_, _*_, _<_, max}
 use borrow.Author.Needs.{needs}
+use denote.Ref.{now}
 use borrow.Fn.Kinds.{In}
 use borrow.Fn.PlainCycle.{Measures, is, falls, and}
 use Rattle.analysis.proofs.evaluate.branch.Reads as branch
 use Rattle.analysis.proofs.evaluate.branch.Kinds as branch-kinds
-use Rattle.analysis.proofs.evaluate.+branch+choose+cut+split+split_both+split_by+split_either+value.Lts-branch as branch-lts
+use Rattle.analysis.proofs.evaluate.+branch+choose+choose_by+choose_split+cut+cut_branch+split+split_both+split_by+split_either+value.Lts-branch as branch-lts
 use Rattle.analysis.proofs.evaluate.choose.Reads as choose
 use Rattle.analysis.proofs.evaluate.choose.Kinds as choose-kinds
-use Rattle.analysis.proofs.evaluate.+branch+choose+cut+split+split_both+split_by+split_either+value.Lts-choose as choose-lts
+use Rattle.analysis.proofs.evaluate.+branch+choose+choose_by+choose_split+cut+cut_branch+split+split_both+split_by+split_either+value.Lts-choose as choose-lts
+use Rattle.analysis.proofs.evaluate.choose_by.Reads as choose-by
+use Rattle.analysis.proofs.evaluate.choose_by.Kinds as choose-by-kinds
+use Rattle.analysis.proofs.evaluate.+branch+choose+choose_by+choose_split+cut+cut_branch+split+split_both+split_by+split_either+value.Lts-choose_by as choose-by-lts
+use Rattle.analysis.proofs.evaluate.choose_split.Reads as choose-split
+use Rattle.analysis.proofs.evaluate.choose_split.Kinds as choose-split-kinds
+use Rattle.analysis.proofs.evaluate.+branch+choose+choose_by+choose_split+cut+cut_branch+split+split_both+split_by+split_either+value.Lts-choose_split as choose-split-lts
 use Rattle.analysis.proofs.evaluate.cut.Reads as cut
 use Rattle.analysis.proofs.evaluate.cut.Kinds as cut-kinds
-use Rattle.analysis.proofs.evaluate.+branch+choose+cut+split+split_both+split_by+split_either+value.Lts-cut as cut-lts
+use Rattle.analysis.proofs.evaluate.+branch+choose+choose_by+choose_split+cut+cut_branch+split+split_both+split_by+split_either+value.Lts-cut as cut-lts
+use Rattle.analysis.proofs.evaluate.cut_branch.Reads as cut-branch
+use Rattle.analysis.proofs.evaluate.cut_branch.Kinds as cut-branch-kinds
+use Rattle.analysis.proofs.evaluate.+branch+choose+choose_by+choose_split+cut+cut_branch+split+split_both+split_by+split_either+value.Lts-cut_branch as cut-branch-lts
 use Rattle.analysis.proofs.evaluate.split.Reads as split
 use Rattle.analysis.proofs.evaluate.split.Kinds as split-kinds
-use Rattle.analysis.proofs.evaluate.+branch+choose+cut+split+split_both+split_by+split_either+value.Lts-split as split-lts
+use Rattle.analysis.proofs.evaluate.+branch+choose+choose_by+choose_split+cut+cut_branch+split+split_both+split_by+split_either+value.Lts-split as split-lts
 use Rattle.analysis.proofs.evaluate.split_both.Reads as split-both
 use Rattle.analysis.proofs.evaluate.split_both.Kinds as split-both-kinds
-use Rattle.analysis.proofs.evaluate.+branch+choose+cut+split+split_both+split_by+split_either+value.Lts-split_both as split-both-lts
+use Rattle.analysis.proofs.evaluate.+branch+choose+choose_by+choose_split+cut+cut_branch+split+split_both+split_by+split_either+value.Lts-split_both as split-both-lts
 use Rattle.analysis.proofs.evaluate.split_by.Reads as split-by
 use Rattle.analysis.proofs.evaluate.split_by.Kinds as split-by-kinds
-use Rattle.analysis.proofs.evaluate.+branch+choose+cut+split+split_both+split_by+split_either+value.Lts-split_by as split-by-lts
+use Rattle.analysis.proofs.evaluate.+branch+choose+choose_by+choose_split+cut+cut_branch+split+split_both+split_by+split_either+value.Lts-split_by as split-by-lts
 use Rattle.analysis.proofs.evaluate.split_either.Reads as split-either
 use Rattle.analysis.proofs.evaluate.split_either.Kinds as split-either-kinds
-use Rattle.analysis.proofs.evaluate.+branch+choose+cut+split+split_both+split_by+split_either+value.Lts-split_either as split-either-lts
+use Rattle.analysis.proofs.evaluate.+branch+choose+choose_by+choose_split+cut+cut_branch+split+split_both+split_by+split_either+value.Lts-split_either as split-either-lts
 use Rattle.analysis.proofs.evaluate.value.Reads as value
 use Rattle.analysis.proofs.evaluate.value.Kinds as value-kinds
-use Rattle.analysis.proofs.evaluate.+branch+choose+cut+split+split_both+split_by+split_either+value.Lts-value as value-lts
+use Rattle.analysis.proofs.evaluate.+branch+choose+choose_by+choose_split+cut+cut_branch+split+split_both+split_by+split_either+value.Lts-value as value-lts
 use Rattle.analysis.proofs.alarms.mark_told.Reads as mark-told-reads
 use Rattle.analysis.proofs.evaluate.no_condition.Reads as no-condition-reads
 use Rattle.analysis.proofs.evaluate.opposed.Reads as opposed-reads
 use Rattle.analysis.proofs.narrow.carry_both.Reads as carry-both-reads
+use Rattle.analysis.proofs.narrow.put_cuts.Reads as put-cuts-reads
+use Rattle.analysis.proofs.narrow.variable_or.Reads as variable-or-reads
 use Rattle.analysis.proofs.rows.is_copy.Reads as is-copy-reads
 use Rattle.analysis.proofs.rows.join_rows.Reads as join-rows-reads
 use Rattle.analysis.proofs.rows.range_in.Reads as range-in-reads
@@ -54,36 +69,45 @@ use Rattle.interval.proofs.integer.max32.Reads as max32-reads
 use Rattle.interval.proofs.lattice.join.Reads as join-reads
 use Rattle.interval.proofs.narrow.cuts.Reads as cuts-reads
 use Rattle.table.proofs.decode.shape_at.Reads as shape-at-reads
-use Rattle.analysis.proofs.evaluate.+branch+choose+cut+split+split_both+split_by+split_either+value.{
+use Rattle.analysis.proofs.evaluate.+branch+choose+choose_by+choose_split+cut+cut_branch+split+split_both+split_by+split_either+value.{
   statement,
 }
-use Rattle.analysis.proofs.evaluate.+branch+choose+cut+split+split_both+split_by+split_either+value.Tie.{
+use Rattle.analysis.proofs.evaluate.+branch+choose+choose_by+choose_split+cut+cut_branch+split+split_both+split_by+split_either+value.Tie.{
   close,
 }
 
 abbrev μ-branch : Measures 3 branch-kinds.ps ℕ
-μ-branch κs a = 4 * a .1 .1 .0 + 1
+μ-branch κs a = 8 * a .1 .1 .0 + 1
 
 abbrev μ-choose : Measures 3 choose-kinds.ps ℕ
-μ-choose κs a = 4 * max (a .1 .0) (max (a .1 .1 .0) (a .1 .1 .1 .0)) + 2
+μ-choose κs a = 8 * max (a .1 .0) (max (a .1 .1 .0) (a .1 .1 .1 .0)) + 4
+
+abbrev μ-choose-by : Measures 3 choose-by-kinds.ps ℕ
+μ-choose-by κs a = 8 * max (max (a .1 .1 .0) (a .1 .1 .1 .0)) (max (a .1 .1 .1 .1 .0) (a .1 .1 .1 .1 .1 .0)) + 3
+
+abbrev μ-choose-split : Measures 3 choose-split-kinds.ps ℕ
+μ-choose-split κs a = 8 * max (a .1 .0) (max (a .1 .1 .0) (a .1 .1 .1 .0)) + 2
 
 abbrev μ-cut : Measures 2 cut-kinds.ps ℕ
-μ-cut κs a = 4 * max (a .1 .1 .1 .0) (a .1 .1 .1 .1 .0) + 1
+μ-cut κs a = 8 * max (a .1 .1 .1 .0) (a .1 .1 .1 .1 .0) + 1
+
+abbrev μ-cut-branch : Measures 3 cut-branch-kinds.ps ℕ
+μ-cut-branch κs a = 8 * a .1 .1 .0 + 2
 
 abbrev μ-split : Measures 5 split-kinds.ps ℕ
-μ-split κs a = 4 * a .1 .0
+μ-split κs a = 8 * a .1 .0
 
 abbrev μ-split-both : Measures 5 split-both-kinds.ps ℕ
-μ-split-both κs a = 4 * max (a .1 .0) (a .1 .1 .0) + 2
+μ-split-both κs a = 8 * max (a .1 .0) (a .1 .1 .0) + 2
 
 abbrev μ-split-by : Measures 3 split-by-kinds.ps ℕ
-μ-split-by κs a = 4 * max (a .1 .1 .0) (a .1 .1 .1 .0) + 2
+μ-split-by κs a = 8 * max (a .1 .1 .0) (a .1 .1 .1 .0) + 2
 
 abbrev μ-split-either : Measures 5 split-either-kinds.ps ℕ
-μ-split-either κs a = 4 * max (a .1 .0) (a .1 .1 .0) + 2
+μ-split-either κs a = 8 * max (a .1 .0) (a .1 .1 .0) + 2
 
 abbrev μ-value : Measures 3 value-kinds.ps ℕ
-μ-value κs a = 4 * a .1 .0
+μ-value κs a = 8 * a .1 .0
 
 abbrev branch-at : ℕ → In 3 branch-kinds.ps
 branch-at t = and 3 branch-kinds.ps (is 3 branch-kinds.ps μ-branch t) branch.Pre
@@ -97,11 +121,29 @@ choose-at t = and 3 choose-kinds.ps (is 3 choose-kinds.ps μ-choose t) choose.Pr
 abbrev choose-below : ℕ → In 3 choose-kinds.ps
 choose-below t = and 3 choose-kinds.ps (falls 3 choose-kinds.ps _<_ μ-choose t) choose.Pre
 
+abbrev choose-by-at : ℕ → In 3 choose-by-kinds.ps
+choose-by-at t = and 3 choose-by-kinds.ps (is 3 choose-by-kinds.ps μ-choose-by t) choose-by.Pre
+
+abbrev choose-by-below : ℕ → In 3 choose-by-kinds.ps
+choose-by-below t = and 3 choose-by-kinds.ps (falls 3 choose-by-kinds.ps _<_ μ-choose-by t) choose-by.Pre
+
+abbrev choose-split-at : ℕ → In 3 choose-split-kinds.ps
+choose-split-at t = and 3 choose-split-kinds.ps (is 3 choose-split-kinds.ps μ-choose-split t) choose-split.Pre
+
+abbrev choose-split-below : ℕ → In 3 choose-split-kinds.ps
+choose-split-below t = and 3 choose-split-kinds.ps (falls 3 choose-split-kinds.ps _<_ μ-choose-split t) choose-split.Pre
+
 abbrev cut-at : ℕ → In 2 cut-kinds.ps
 cut-at t = and 2 cut-kinds.ps (is 2 cut-kinds.ps μ-cut t) cut.Pre
 
 abbrev cut-below : ℕ → In 2 cut-kinds.ps
 cut-below t = and 2 cut-kinds.ps (falls 2 cut-kinds.ps _<_ μ-cut t) cut.Pre
+
+abbrev cut-branch-at : ℕ → In 3 cut-branch-kinds.ps
+cut-branch-at t = and 3 cut-branch-kinds.ps (is 3 cut-branch-kinds.ps μ-cut-branch t) cut-branch.Pre
+
+abbrev cut-branch-below : ℕ → In 3 cut-branch-kinds.ps
+cut-branch-below t = and 3 cut-branch-kinds.ps (falls 3 cut-branch-kinds.ps _<_ μ-cut-branch t) cut-branch.Pre
 
 abbrev split-at : ℕ → In 5 split-kinds.ps
 split-at t = and 5 split-kinds.ps (is 5 split-kinds.ps μ-split t) split.Pre
@@ -146,10 +188,19 @@ abbrev branch-calls : ℕ → branch-lts.Claims
 branch-calls t = (value-below t, value.Post)
 
 abbrev choose-calls : ℕ → choose-lts.Claims
-choose-calls t = (split-below t, split.Post, branch-below t, branch.Post, join-reads.Asked, join-reads.Learnt)
+choose-calls t = (shape-at-reads.Asked, shape-at-reads.Learnt, choose-by-below t, choose-by.Post, choose-split-below t, choose-split.Post)
+
+abbrev choose-by-calls : ℕ → choose-by-lts.Claims
+choose-by-calls t = (value-below t, value.Post, compare-reads.Asked, compare-reads.Learnt, variable-or-reads.Asked, variable-or-reads.Learnt, cuts-reads.Asked, cuts-reads.Learnt, cut-branch-below t, cut-branch.Post, join-reads.Asked, join-reads.Learnt)
+
+abbrev choose-split-calls : ℕ → choose-split-lts.Claims
+choose-split-calls t = (split-below t, split.Post, branch-below t, branch.Post, join-reads.Asked, join-reads.Learnt)
 
 abbrev cut-calls : ℕ → cut-lts.Claims
 cut-calls t = (cuts-reads.Asked, cuts-reads.Learnt, carry-both-reads.Asked, carry-both-reads.Learnt, value-below t, value.Post)
+
+abbrev cut-branch-calls : ℕ → cut-branch-lts.Claims
+cut-branch-calls t = (put-cuts-reads.Asked, put-cuts-reads.Learnt, branch-below t, branch.Post)
 
 abbrev split-calls : ℕ → split-lts.Claims
 split-calls t = (shape-at-reads.Asked, shape-at-reads.Learnt, value-below t, value.Post, split-by-below t, split-by.Post, split-both-below t, split-both.Post, split-either-below t, split-either.Post, split-below t, split.Post, opposed-reads.Asked, opposed-reads.Learnt, no-condition-reads.Asked, no-condition-reads.Learnt)
@@ -166,14 +217,17 @@ split-either-calls t = (split-below t, split.Post, is-copy-reads.Asked, is-copy-
 abbrev value-calls : ℕ → value-lts.Claims
 value-calls t = (shape-at-reads.Asked, shape-at-reads.Learnt, max32-reads.Asked, max32-reads.Learnt, range-in-reads.Asked, range-in-reads.Learnt, value-below t, value.Post, negate-reads.Asked, negate-reads.Learnt, mark-told-reads.Asked, mark-told-reads.Learnt, operate-reads.Asked, operate-reads.Learnt, choose-below t, choose.Post)
 
-pub +branch+choose+cut+split+split-both+split-by+split-either+value-spec :
+pub +branch+choose+choose-by+choose-split+cut+cut-branch+split+split-both+split-by+split-either+value-spec :
     {M : Type 1} → statement M
 unfolding arithBy
-+branch+choose+cut+split+split-both+split-by+split-either+value-spec =
++branch+choose+choose-by+choose-split+cut+cut-branch+split+split-both+split-by+split-either+value-spec =
     close
     μ-branch
     μ-choose
+    μ-choose-by
+    μ-choose-split
     μ-cut
+    μ-cut-branch
     μ-split
     μ-split-both
     μ-split-by
@@ -185,6 +239,47 @@ unfolding arithBy
     (λ c. let valued = c .before .before in branch-taken _ _ _ _ _ (valued .before .before .if1 .taken) (valued .value .ensures))
     (λ c. branch-left-out _ _ _ _ _ (c .if1 .left)))
     (λ t. choose-lts.spec (choose-calls t) (choose-at t) choose.Post
+    (λ c κs. search needs)
+    (λ c. search needs)
+    (λ c κs. let arm = c .before .before in let below = children-of _ _ (sym (arm .before .before .shape-at .ensures) ∙ arm .shape .given .1) in omega arith)
+    (λ c κs. omega arith)
+    (λ c. search needs)
+    (λ c.
+    let chose = c .before .before in
+    let arm = chose .before .before .before in
+    choice-by _ _ _ _ _ _ (sym (arm .before .before .shape-at .ensures) ∙ arm .shape .given .1) (chose .choose-by .ensures))
+    (λ c. search needs)
+    (λ c. c .before .before .choose-split .ensures))
+    (λ t. choose-by-lts.spec (choose-by-calls t) (choose-by-at t) choose-by.Post
+    (λ c κs. omega arith)
+    (λ c κs. omega arith)
+    (λ c κs. search needs)
+    (λ c κs. search needs)
+    (λ c κs. search needs)
+    (λ c κs. search needs)
+    (λ c κs. search needs)
+    (λ c κs. let start = c .before .before .before .before .before .before .before .before .before .before .before .before .before .before .before in let falls : 8 * start .args .a + 2 < t = omega (arith, start .pre .0) in (falls, tt))
+    (λ c κs. let start = c .before .before .before .before .before .before .before .before .before .before .before .before .before .before .before .before .before .before .before in let falls : 8 * start .args .b + 2 < t = omega (arith, start .pre .0) in (falls, tt))
+    (λ c κs. search needs)
+    (λ c.
+    let else = c .before .before in
+    let then = else .before .before .before .before in
+    let right = then .before .before .before .before .before .before .before .before .before in
+    else .marks4 .given ∙ then .marks3 .given ∙ right .marks2 .given ∙ right .before .before .before .before .marks .given)
+    (λ c.
+    let else = c .before .before .before in
+    let then = else .before .before .before .before in
+    let no = then .before .before in
+    let yes = no .before in
+    let right-at = yes .before in
+    let left-at = right-at .before in
+    let test = left-at .before in
+    let right = test .before .before .before in
+    let left = right .before .before .before .before in
+    let row = now (left .before .before .before .args .row) in
+    chosen-by _ (rowIn row) _ _ _ _ _ _ (few-lows row) (few-highs row) (left .value .ensures) (right .value2 .ensures) (test .compare .ensures) (left-at .variable-or .ensures)
+    (right-at .variable-or2 .ensures) (yes .cuts .ensures) (no .cuts2 .ensures) (then .cut-branch .ensures) (else .cut-branch2 .ensures) (c .join .ensures)))
+    (λ t. choose-split-lts.spec (choose-split-calls t) (choose-split-at t) choose-split.Post
     (λ c κs. (omega arith, (λ e. refl, λ e. refl)))
     (λ c κs. omega arith)
     (λ c κs. omega arith)
@@ -213,6 +308,15 @@ unfolding arithBy
     let second = made .before .before in
     let first = second .before .before .before .before in
     cut-leaves _ _ _ _ _ _ (first .value .ensures .0) (second .value2 .ensures .0) (made .cuts2 .ensures) (c .carry-both2 .ensures)))
+    (λ t. cut-branch-lts.spec (cut-branch-calls t) (cut-branch-at t) cut-branch.Post
+    (λ c. cut-left-out _ _ _ _ _ _ _ (not-true _ (c .if1 .taken)))
+    (λ c κs. search needs)
+    (λ c κs. omega arith)
+    (λ c. search needs)
+    (λ c.
+    let valued = c .before .before in
+    let own = valued .before .before .before in
+    cut-taken _ _ _ _ _ _ _ (not-false _ (own .before .before .before .if1 .left)) (own .put-cuts .ensures) (valued .branch .ensures)))
     (λ t. split-lts.spec (split-calls t) (split-at t) split.Post
     (λ c κs. search needs)
     (λ c. search needs)
@@ -264,7 +368,7 @@ unfolding arithBy
     (λ c κs. search needs)
     (λ c κs.
     let start = c .before .before .before .before .before .before .before .before .before .before .before .before .before in
-    let falls : 4 * start .args .b < t = omega (arith, start .pre .0) in
+    let falls : 8 * start .args .b < t = omega (arith, start .pre .0) in
     (falls, (c .before .before .before .is-copy .ensures .1, start .pre .1 .1)))
     (λ c κs. search needs)
     (λ c κs. search needs)
@@ -285,7 +389,7 @@ unfolding arithBy
     (λ c κs. search needs)
     (λ c κs.
     let start = c .before .before .before .before .before .before .before .before .before .before .before .before .before in
-    let falls : 4 * start .args .b < t = omega (arith, start .pre .0) in
+    let falls : 8 * start .args .b < t = omega (arith, start .pre .0) in
     (falls, (start .pre .1 .0, c .before .before .before .is-copy .ensures .1)))
     (λ c κs. search needs)
     (λ c κs. search needs)
