@@ -10,7 +10,7 @@
    the time. Check such tables as come from elsewhere in a process that can be stopped.
 
    Call from a thread with 2 MB of stack or more. How deep a call goes depends on how deep the table's formulas are nested: 1024 nodes within one another
-   were measured to take 0.6 MB. That is no part of what is proved. */
+   were measured to take 0.8 MB. That is no part of what is proved. */
 #ifndef RANGECHECK_H
 #define RANGECHECK_H
 #include <stddef.h>

@@ -1,7 +1,7 @@
 //! A safe wrapper of `librangecheck_c.a`, the proved check and run, with the standard library alone.
 //!
 //! Both take any words whatever and always come back: each is proved equal to a definition, for every table, proposal and schedule. Formulas that are nested
-//! as deep as a table can have them were measured to take 0.6 MB of stack, so a thread of the usual 2 MB is enough.
+//! as deep as a table can have them were measured to take 0.8 MB of stack, so a thread of the usual 2 MB is enough.
 //!
 //! ```
 //! use rangecheck::{check, run, Refusal};

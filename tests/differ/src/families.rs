@@ -14,6 +14,7 @@ mod remainders;
 mod rooms;
 mod runs;
 mod tables;
+mod tested;
 mod tower;
 mod trees;
 mod vectors;
@@ -35,6 +36,7 @@ const FAMILIES: &[(&str, Family)] = &[
     ("trees", trees::run),
     ("remainders", remainders::run),
     ("choices", choices::run),
+    ("tested", tested::run),
     ("agreement", agreement::run),
     ("tower", tower::run),
 ];

@@ -36,6 +36,28 @@ pub enum Node {
     Not(u16),
 }
 
+impl Node {
+    /// The nodes that it names, in their order.
+    pub fn children(self) -> Vec<u16> {
+        match self {
+            Node::Constant(_) | Node::Input(_) | Node::Variable(_) => vec![],
+            Node::Negation(a) | Node::Not(a) => vec![a],
+            Node::Sum(a, b)
+            | Node::Difference(a, b)
+            | Node::Product(a, b)
+            | Node::Quotient(a, b)
+            | Node::Remainder(a, b)
+            | Node::Less(a, b)
+            | Node::AtMost(a, b)
+            | Node::Equal(a, b)
+            | Node::NotEqual(a, b)
+            | Node::Both(a, b)
+            | Node::Either(a, b) => vec![a, b],
+            Node::Choice { condition, then, otherwise } => vec![condition, then, otherwise],
+        }
+    }
+}
+
 #[derive(Clone, Copy, Debug, PartialEq, Eq)]
 pub enum Point {
     End,

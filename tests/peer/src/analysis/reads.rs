@@ -13,24 +13,11 @@ pub fn reads(nodes: &[Node], node: u16) -> [bool; VARIABLES] {
 }
 
 fn mark(nodes: &[Node], node: u16, read: &mut [bool; VARIABLES]) {
-    let mut each = |children: &[u16]| children.iter().for_each(|&child| mark(nodes, child, read));
-    match nodes[usize::from(node)] {
-        Node::Constant(_) | Node::Input(_) => {}
-        Node::Variable(variable) => read[usize::from(variable)] = true,
-        Node::Negation(a) | Node::Not(a) => each(&[a]),
-        Node::Sum(a, b)
-        | Node::Difference(a, b)
-        | Node::Product(a, b)
-        | Node::Quotient(a, b)
-        | Node::Remainder(a, b)
-        | Node::Less(a, b)
-        | Node::AtMost(a, b)
-        | Node::Equal(a, b)
-        | Node::NotEqual(a, b)
-        | Node::Both(a, b)
-        | Node::Either(a, b) => each(&[a, b]),
-        Node::Choice { condition, then, otherwise } => each(&[condition, then, otherwise]),
+    let node = nodes[usize::from(node)];
+    if let Node::Variable(variable) = node {
+        read[usize::from(variable)] = true;
     }
+    node.children().into_iter().for_each(|child| mark(nodes, child, read));
 }
 
 #[cfg(test)]

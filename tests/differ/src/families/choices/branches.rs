@@ -64,23 +64,13 @@ struct Walk<'a> {
 impl Walk<'_> {
     fn node(&mut self, node: u16, row: &Row) {
         match self.nodes[usize::from(node)] {
-            Node::Constant(_) | Node::Input(_) | Node::Variable(_) => {}
-            Node::Negation(a) | Node::Not(a) => self.node(a, row),
-            Node::Sum(a, b)
-            | Node::Difference(a, b)
-            | Node::Product(a, b)
-            | Node::Quotient(a, b)
-            | Node::Remainder(a, b)
-            | Node::Less(a, b)
-            | Node::AtMost(a, b)
-            | Node::Equal(a, b)
-            | Node::NotEqual(a, b) => [a, b].iter().for_each(|&side| self.node(side, row)),
             Node::Both(a, b) => self.sides(RIGHT_OF_BOTH, [a, b], true, row),
             Node::Either(a, b) => self.sides(RIGHT_OF_EITHER, [a, b], false, row),
             Node::Choice { condition, then, otherwise } => {
                 self.node(condition, row);
                 self.choice(condition, [then, otherwise], row);
             }
+            other => other.children().into_iter().for_each(|child| self.node(child, row)),
         }
     }
 
