@@ -19,7 +19,7 @@ use std::path::Path;
 
 /// How many comparisons are drawn, and how many checks are made at least of
 /// them alone, and of conditions that hold them.
-const DRAWN: usize = 24_000;
+const DRAWN: usize = 48_000;
 const LEAST_ALONE: usize = 20_000;
 const LEAST_WITHIN: usize = 5_000;
 

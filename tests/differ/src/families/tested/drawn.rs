@@ -40,10 +40,9 @@ const TOPS: [&str; 3] = ["in both", "in either", "in not"];
 /// All of them, and how often each has to be reached.
 pub fn names() -> Vec<(&'static str, usize)> {
     let sides = [LEFT, RIGHT, TWO, SAME, NEITHER, QUOTIENT, CHOICE, ALARM];
-    let often = [&KINDS[..], &sides, &NOTHING, &WHOLE, &ONE_CUT, &TOPS].concat();
-    // Few intervals are so narrow, or meet so.
-    let seldom = [TWO_CUT, NO_MEET].map(|name| (name, LEAST / 2));
-    often.into_iter().map(|name| (name, LEAST)).chain(seldom).collect()
+    let seldom = [TWO_CUT, NO_MEET];
+    let all = [&KINDS[..], &sides, &NOTHING, &WHOLE, &ONE_CUT, &TOPS, &seldom].concat();
+    all.into_iter().map(|name| (name, LEAST)).collect()
 }
 
 /// Those that a comparison is an example of.
