@@ -1,4 +1,5 @@
 pub mod RowLaws
+pub mod JoinLaws
 pub mod AlarmLaws
 pub mod OutcomeLaws
 pub mod NodeLaws

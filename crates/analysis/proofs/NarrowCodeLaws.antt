@@ -1,4 +1,5 @@
--- Carrying a cut back to a row, and the variable that it is carried to: from the shape of a node, and what the calls gave back, to what the definition says.
+-- The variable that a cut is carried back to, and cuts put in place or joined: from the shape of a node, and what the calls gave back, to what the
+-- definition says.
 -- Assumes nothing.
 use Prim.Native.Nat.{ℕ, _<_, _≤_}
 use mathlib.Core.Path.{_≡_, refl}
@@ -7,8 +8,10 @@ use mathlib.Core.List.{List, [], _∷_}
 use types.Run.{OneOf, miss}
 use denote.Enum.Declared.{tagOf}
 use borrow.Author.Tests.{lt-ltb, le-ltb, eq-eqb, ne-eqb}
-use lib.IntN.{ℤ, pos}
-use Rattle.interval.specs.declared.Interval.the-variants.{Between}
+use lib.Dec.{eqb}
+use lib.IntN.{ℤ}
+use lib.ListN.{length}
+use Rattle.interval.specs.declared.Interval.the-variants.{None, Between}
 use Rattle.interval.specs.declared.Cuts.{Cuts}
 use Rattle.table.specs.declared.Shape.{Shape}
 use Rattle.table.specs.declared.Shape.the-variants.{Constant, Input, Variable, Negation, Binary, Choice, Compare, Both, Either, Not, Bad}
@@ -16,52 +19,29 @@ use Rattle.table.specs.Decode.{shapeOf}
 use Rattle.table.specs.Tree.{Arith, Cond, arithBy, arithAt, condAt}
 use Rattle.table.proofs.Shape.{the-type}
 use Rattle.table.proofs.TreeLaws.{arith-of}
-use Rattle.analysis.specs.Rows.{Row, rowOf, Maybe, some, maybeBy, thenRow, putOf, meetAtOf}
-use Rattle.analysis.specs.Analysis.{carryOf}
-use Rattle.analysis.specs.Cuts.{variableOr, cutRowOf}
+use Rattle.analysis.specs.Rows.{Row, Maybe, some, maybeBy, thenRow, putOf, meetAtOf, joinRowsOf}
+use Rattle.analysis.specs.Cuts.{variableOr, cutRowOf, metIf}
+use Rattle.analysis.proofs.CutLaws.{cut-written, cut-first-none}
 
--- ---- what the calls gave back
--- one and then the other: the answer of the first decides whether the other is asked
-module _ (f : Row → Maybe) (m : Maybe) (t : Bool) (r : Row) where
-  pub then-none : (s : Row) → maybeBy t r ≡ m → t ≡ false → maybeBy false s ≡ thenRow m f
-  unfolding maybeBy thenRow
-  then-none s e h = rw (← e, h) refl
-
-  pub then-some : (u : Bool) (s : Row) → maybeBy t r ≡ m → t ≡ true → maybeBy u s ≡ f r → maybeBy u s ≡ thenRow m f
-  unfolding maybeBy thenRow
-  then-some u s e h k = rw (← e, h) k
-
--- ---- carrying an interval back
--- the tags of the shapes that are no variable, and that these leave the row and name none
+-- ---- the variable that a node is
+-- the tags of the shapes that are no variable, and that these name none
 abbrev noVariable : List ℕ
 noVariable = 0 ∷ 1 ∷ 3 ∷ 4 ∷ 5 ∷ 6 ∷ 7 ∷ 8 ∷ 9 ∷ 10 ∷ []
 
-no-variable :
-    (a : ℕ → Arith) (c : ℕ → Cond) (n p : ℕ) (l h : ℤ) (r : Row) (s : Shape)
-    → OneOf noVariable (tagOf the-type s)
-    → (carryOf (arithBy a c n s) (Between l h) r ≡ some r) × (variableOr p (arithBy a c n s) ≡ p)
-unfolding arithBy carryOf variableOr
-no-variable a c n p l h r (Constant z) o = (refl, refl)
-no-variable a c n p l h r (Input x y) o = (refl, refl)
-no-variable a c n p l h r (Variable v) o = absurd (miss noVariable 2 tt o)
-no-variable a c n p l h r (Negation x) o = (refl, refl)
-no-variable a c n p l h r (Binary op x y) o = (refl, refl)
-no-variable a c n p l h r (Choice x y z) o = (refl, refl)
-no-variable a c n p l h r (Compare k x y) o = (refl, refl)
-no-variable a c n p l h r (Both x y) o = (refl, refl)
-no-variable a c n p l h r (Either x y) o = (refl, refl)
-no-variable a c n p l h r (Not x) o = (refl, refl)
-no-variable a c n p l h r Bad o = (refl, refl)
+no-variable : (a : ℕ → Arith) (c : ℕ → Cond) (n p : ℕ) (s : Shape) → OneOf noVariable (tagOf the-type s) → variableOr p (arithBy a c n s) ≡ p
+unfolding arithBy variableOr
+no-variable a c n p (Constant z) o = refl
+no-variable a c n p (Input x y) o = refl
+no-variable a c n p (Variable v) o = absurd (miss noVariable 2 tt o)
+no-variable a c n p (Negation x) o = refl
+no-variable a c n p (Binary op x y) o = refl
+no-variable a c n p (Choice x y z) o = refl
+no-variable a c n p (Compare k x y) o = refl
+no-variable a c n p (Both x y) o = refl
+no-variable a c n p (Either x y) o = refl
+no-variable a c n p (Not x) o = refl
+no-variable a c n p Bad o = refl
 
-module _ (ns : List ℤ) (n : ℕ) (l h : ℤ) (r : Row) where
-  pub carry-variable-is : {v : ℕ} → shapeOf ns n ≡ Variable v → carryOf (arithAt ns n) (Between l h) r ≡ meetAtOf r v (Between l h)
-  unfolding arithBy carryOf
-  carry-variable-is e = rw (arith-of ns n e)
-
-  pub carry-other-is : {s : Shape} → shapeOf ns n ≡ s → OneOf noVariable (tagOf the-type s) → carryOf (arithAt ns n) (Between l h) r ≡ some r
-  carry-other-is {s} e o = rw (arith-of ns n e) (no-variable (arithAt ns) (condAt ns) n 0 l h r s o .0)
-
--- ---- the variable that a node is
 module _ (ns : List ℤ) (n p : ℕ) where
   pub variable-is : {v : ℕ} → shapeOf ns n ≡ Variable v → v < 16 → variableOr p (arithAt ns n) ≡ v
   unfolding arithBy variableOr
@@ -72,7 +52,7 @@ module _ (ns : List ℤ) (n p : ℕ) where
   variable-past {v} e h = rw (arith-of ns n e, le-ltb v 16 h)
 
   pub variable-none : {s : Shape} → shapeOf ns n ≡ s → OneOf noVariable (tagOf the-type s) → variableOr p (arithAt ns n) ≡ p
-  variable-none {s} e o = rw (arith-of ns n e) (no-variable (arithAt ns) (condAt ns) n p (pos 0) (pos 0) (rowOf [] []) s o .1)
+  variable-none {s} e o = rw (arith-of ns n e) (no-variable (arithAt ns) (condAt ns) n p s o)
 
 -- ---- two cuts put in place: what the first put gave decides whether the second is asked
 module _ (r s : Row) (v w : ℕ) (u : Cuts) (t : Bool) (first : maybeBy t s ≡ putOf r v (u .left)) where
@@ -87,3 +67,27 @@ module _ (r s : Row) (v w : ℕ) (u : Cuts) (t : Bool) (first : maybeBy t s ≡ 
   pub cut-other : {o : Maybe} → t ≡ true → (v ≡ w → ⊥) → o ≡ putOf s w (u .right) → o ≡ cutRowOf r v w u
   unfolding maybeBy thenRow cutRowOf
   cut-other h e k = rw (← first, h, ne-eqb v w e) k
+
+-- ---- the cuts of a row of sixteen slots, joined to the row r
+module _ (r s : Row) (v w : ℕ) (u : Cuts) where
+  pub join-first-none : u .left ≡ None → some r ≡ joinRowsOf (some r) (cutRowOf s v w u)
+  unfolding joinRowsOf
+  join-first-none e = rw (cut-first-none s v w u e) refl
+
+  pub join-last-none : {a b : ℤ} → length (s .lows) ≡ 16 → length (s .highs) ≡ 16 → (v ≡ w → v < 16) → u .left ≡ Between a b → metIf (eqb v w) (u .left) (u .right) ≡ None → some r ≡ joinRowsOf (some r) (cutRowOf s v w u)
+  unfolding joinRowsOf putOf
+  join-last-none {a} {b} low high h e f = rw (cut-written s low high v w u a b h e, f) refl
+
+  pub join-cuts : {a b c d : ℤ} {o : Maybe} → length (s .lows) ≡ 16 → length (s .highs) ≡ 16 → (v ≡ w → v < 16) → u .left ≡ Between a b → metIf (eqb v w) (u .left) (u .right) ≡ Between c d → o ≡ joinRowsOf (some r) (thenRow (putOf s v (Between a b)) (λ q. putOf q w (Between c d))) → o ≡ joinRowsOf (some r) (cutRowOf s v w u)
+  unfolding thenRow putOf
+  join-cuts {a} {b} low high h e f k = rw (cut-written s low high v w u a b h e, f) k
+
+-- the same where there may be no row yet
+module _ (r : Row) (s : Maybe) {t : Bool} {o : Maybe} where
+  pub add-alone : t ≡ false → o ≡ s → o ≡ joinRowsOf (maybeBy t r) s
+  unfolding maybeBy joinRowsOf
+  add-alone e h = rw e h
+
+  pub add-to : t ≡ true → o ≡ joinRowsOf (some r) s → o ≡ joinRowsOf (maybeBy t r) s
+  unfolding maybeBy
+  add-to e h = rw e h

@@ -1,9 +1,9 @@
 -- One step of the walk that evaluates a tree on a row and marks its alarms: from the shape of a node and what the walk gave for its children to
 -- what the tree's definition says of the node.
 -- Assumes nothing.
-use Prim.Native.Nat.{ℕ, _≤_}
+use Prim.Native.Nat.{ℕ, _<_, _≤_}
 use mathlib.Core.Path.{_≡_, refl, sym, ap, _∙_}
-use mathlib.Core.Bool.{Bool, true, false, _&&_}
+use mathlib.Core.Bool.{Bool, true, false, not, _&&_}
 use mathlib.Core.List.{List, [], _∷_, _++_}
 use types.Run.{OneOf, miss}
 use denote.Enum.Declared.{tagOf}
@@ -12,7 +12,7 @@ use lib.ListN.{length}
 use Rattle.interval.specs.Integer.{maxZ}
 use Rattle.interval.specs.Lattice.{joinOf}
 use Rattle.interval.specs.Arithmetic.{negateOf, operateOf}
-use Rattle.interval.specs.Compare.{decision, bothOf, eitherOf, oppositeOf, compareOf}
+use Rattle.interval.specs.Compare.{decision, oppositeOf, compareOf}
 use Rattle.interval.specs.Narrow.{cutsOf}
 use Rattle.interval.specs.declared.Interval.{Interval}
 use Rattle.interval.specs.declared.Interval.the-variants.{None, Between}
@@ -24,18 +24,20 @@ use Rattle.interval.specs.declared.Cuts.{Cuts}
 use Rattle.table.specs.declared.Shape.{Shape}
 use Rattle.table.specs.declared.Shape.the-variants.{Constant, Input, Variable, Negation, Binary, Choice, Compare, Both, Either, Not, Bad}
 use Rattle.table.specs.Decode.{shapeOf}
-use Rattle.table.specs.Tree.{Arith, Cond, choice, noArith, compare, both, either, noCond, arithBy, condBy, arithAt, condAt}
+use Rattle.table.specs.Tree.{Arith, Cond, choice, noArith, compare, both, either, isNot, noCond, arithBy, condBy, arithAt, condAt}
 use Rattle.table.proofs.Shape.{the-type}
 use Rattle.table.proofs.TreeLaws.{arith-of, cond-of}
 use Rattle.analysis.specs.declared.Alarm.{Alarm}
 use Rattle.analysis.specs.declared.Split.{Split}
 use Rattle.analysis.specs.Rows.{Row, rangeOf, Maybe, rowIf, maybeBy, thenRow, joinRowsOf}
 use Rattle.analysis.specs.Alarms.{toldOf, markedOf}
-use Rattle.analysis.specs.Analysis.{valueOf, alarmsOf, decisionOf, condAlarmsOf, narrowOf, rangeOn, alarmsOn, carryBothOf}
+use Rattle.analysis.specs.Analysis.{valueOf, alarmsOf, decisionOf, condAlarmsOf, narrowOf, rangeOn, alarmsOn}
 use Rattle.analysis.specs.Cuts.{variableOr, cutRowOf}
-use Rattle.analysis.specs.Arrays.{rowIn, isSome, splitOf, CopyIf, KnownIf}
+use Rattle.analysis.specs.Arrays.{rowIn, isSome, splitOf, pairOf, combinedOf, CopyIf, KnownIf}
 use Rattle.analysis.proofs.AlarmLaws.{marked-append}
-use Rattle.analysis.proofs.CutLaws.{narrow-cuts}
+use Rattle.analysis.proofs.CutLaws.{slots-differ, narrow-cuts}
+use Rattle.analysis.proofs.JoinLaws.{joinRows-assoc}
+use Rattle.analysis.proofs.RowCodeLaws.{few-lows, few-highs}
 
 -- marks of one list, then of another
 pub marked-then : (l k : List Alarm) (m : List ℕ) {m′ m″ : List ℕ} → m′ ≡ markedOf m l → m″ ≡ markedOf m′ k → m″ ≡ markedOf m (l ++ k)
@@ -50,9 +52,19 @@ Valued ns r n m i m′ = (i ≡ valueOf (arithAt ns n) r) × (m′ ≡ markedOf 
 abbrev pub Branched : List ℤ → Maybe → ℕ → List ℕ → Interval → List ℕ → Type 0
 Branched ns s n m i m′ = (i ≡ rangeOn s (valueOf (arithAt ns n))) × (m′ ≡ markedOf m (alarmsOn s (alarmsOf (arithAt ns n))))
 
--- what a condition says of the row r: its decision d; y is what it leaves of the row u where it is true, w what it leaves of the row v where it is not
-abbrev pub Splits : Cond → Row → Row → Row → List ℕ → Decision → Maybe → Maybe → List ℕ → Type 0
-Splits c r u v m d y w m′ = (d ≡ decisionOf c r) × ((y ≡ narrowOf c true u) × ((w ≡ narrowOf c false v) × (m′ ≡ markedOf m (condAlarmsOf c r))))
+-- what a condition says of the row r, asked for the truth w: its decision d; y is what it leaves of the row u where it has that truth, and z what it leaves
+-- of the row v where it hasn't, joined to j
+abbrev pub Splits : Cond → Bool → Row → Row → Row → Maybe → List ℕ → Decision → Maybe → Maybe → List ℕ → Type 0
+Splits c w r u v j m d y z m′ = (d ≡ decisionOf c r) × ((y ≡ narrowOf c w u) × ((z ≡ joinRowsOf j (narrowOf c (not w) v)) × (m′ ≡ markedOf m (condAlarmsOf c r))))
+
+-- what it leaves of the row r on both sides
+abbrev pub Sides : Cond → Row → List ℕ → Decision → Maybe → Maybe → List ℕ → Type 0
+Sides c r m d y z m′ = (d ≡ decisionOf c r) × ((y ≡ narrowOf c true r) × ((z ≡ narrowOf c false r) × (m′ ≡ markedOf m (condAlarmsOf c r))))
+
+-- asked for 'true', with nothing joined before
+pub sides-of : (c : Cond) (r q : Row) (m : List ℕ) {d : Decision} {y z : Maybe} {m′ : List ℕ} → Splits c true r r r (maybeBy false q) m d y z m′ → Sides c r m d y z m′
+unfolding maybeBy joinRowsOf
+sides-of c r q m h = h
 
 -- the interval i of the outcome o of an operation at the node n
 abbrev pub Told : ℕ → List ℕ → Computed → Interval → List ℕ → Type 0
@@ -109,7 +121,7 @@ module _ (ns : List ℤ) (r : Row) (n : ℕ) (m : List ℕ) where
 -- a choice by the condition c, from what that said and from the branches
 chosen-of :
     (ns : List ℤ) (r : Row) (c : Cond) (x y : ℕ) (m : List ℕ) {d : Decision} {s t : Maybe} {i j k : Interval} {m₁ m₂ m₃ : List ℕ}
-    → Splits c r r r m d s t m₁ → Branched ns (rowIf (d .yes) s) x m₁ i m₂ → Branched ns (rowIf (d .no) t) y m₂ j m₃ → k ≡ joinOf i j
+    → Sides c r m d s t m₁ → Branched ns (rowIf (d .yes) s) x m₁ i m₂ → Branched ns (rowIf (d .no) t) y m₂ j m₃ → k ≡ joinOf i j
     → (k ≡ valueOf (choice 0 c (arithAt ns x) (arithAt ns y)) r) × (m₃ ≡ markedOf m (alarmsOf (choice 0 c (arithAt ns x) (arithAt ns y)) r))
 unfolding valueOf
 chosen-of ns r c x y m h then else l =
@@ -117,7 +129,7 @@ chosen-of ns r c x y m h then else l =
 
 pub chosen :
     (ns : List ℤ) (r : Row) (c x y : ℕ) (m : List ℕ) {d : Decision} (f g : Bool) (u v : Row) {i j k : Interval} {m₁ m₂ m₃ : List ℕ}
-    → Splits (condAt ns c) r r r m d (maybeBy f u) (maybeBy g v) m₁ → Branched ns (maybeBy (d .yes && f) u) x m₁ i m₂
+    → Sides (condAt ns c) r m d (maybeBy f u) (maybeBy g v) m₁ → Branched ns (maybeBy (d .yes && f) u) x m₁ i m₂
     → Branched ns (maybeBy (d .no && g) v) y m₂ j m₃ → k ≡ joinOf i j
     → (k ≡ valueOf (choice 0 (condAt ns c) (arithAt ns x) (arithAt ns y)) r)
     × (m₃ ≡ markedOf m (alarmsOf (choice 0 (condAt ns c) (arithAt ns x) (arithAt ns y)) r))
@@ -184,57 +196,130 @@ unfolding maybeBy thenRow
 in-turn then true g y y′ z e h = h ∙ ap (λ (m : Maybe). thenRow m then) e
 in-turn then false g y y′ z e h = refl
 
--- two conditions, left and then right: each is decided on the row that is read; one row is narrowed by both in turn, and the other is what both leave of
--- it together
-module _ (c d : Cond) (r u v : Row) (m : List ℕ) {p q b : Decision} (f g f′ g′ : Bool) (y y′ y″ z z′ : Row) {m′ m″ : List ℕ} where
-  pub both-splits : {w : Maybe} → Splits c r u v m p (maybeBy f y) (maybeBy g z) m′ → maybeBy f y′ ≡ maybeBy f y → Splits d r y′ v m′ q (maybeBy f′ y″) (maybeBy g′ z′) m″ → b ≡ bothOf p q → w ≡ joinRowsOf (maybeBy g z) (maybeBy g′ z′) → Splits (both 0 c d) r u v m b (maybeBy (f && f′) y″) w m″
-  unfolding valueOf
-  both-splits h k l e j = (
-    rw (← h .0, ← l .0) e,
-    (
-      rw (← h .1 .0) (in-turn (narrowOf d true) f f′ y y′ y″ k (l .1 .0)),
-      (rw (← h .1 .1 .0, ← l .1 .1 .0) j, marked-then _ _ m (h .1 .1 .1) (l .1 .1 .1)),
-    ),
-  )
+-- ---- two conditions, both of them or either, by the truth that is asked for
+pair-decided : (w : Bool) (c d : Cond) (r : Row) → decisionOf (pairOf w c d) r ≡ combinedOf w (decisionOf c r) (decisionOf d r)
+unfolding pairOf combinedOf decisionOf
+pair-decided true c d r = refl
+pair-decided false c d r = refl
 
-  pub either-splits : {w : Maybe} → Splits c r u v m p (maybeBy g z) (maybeBy f y) m′ → maybeBy f y′ ≡ maybeBy f y → Splits d r u y′ m′ q (maybeBy g′ z′) (maybeBy f′ y″) m″ → b ≡ eitherOf p q → w ≡ joinRowsOf (maybeBy g z) (maybeBy g′ z′) → Splits (either 0 c d) r u v m b w (maybeBy (f && f′) y″) m″
-  unfolding valueOf
-  either-splits h k l e j = (
-    rw (← h .0, ← l .0) e,
-    (
-      rw (← h .1 .0, ← l .1 .0) j,
-      (rw (← h .1 .1 .0) (in-turn (narrowOf d false) f f′ y y′ y″ k (l .1 .1 .0)), marked-then _ _ m (h .1 .1 .1) (l .1 .1 .1)),
-    ),
-  )
+pair-alarms : (w : Bool) (c d : Cond) (r : Row) → condAlarmsOf (pairOf w c d) r ≡ condAlarmsOf c r ++ condAlarmsOf d r
+unfolding pairOf condAlarmsOf
+pair-alarms true c d r = refl
+pair-alarms false c d r = refl
 
--- a comparison of nodes whose intervals on the row are i and j
-pub cut-leaves : (ns : List ℤ) (r : Row) (k : Comparison) (w : Bool) (x y : ℕ) {i j : Interval} {t : Cuts} {s : Maybe} → i ≡ valueOf (arithAt ns x) r → j ≡ valueOf (arithAt ns y) r → t ≡ cutsOf k w i j → s ≡ carryBothOf (arithAt ns x) (arithAt ns y) t r → s ≡ narrowOf (compare 0 k (arithAt ns x) (arithAt ns y)) w r
-unfolding valueOf
-cut-leaves ns r k w x y p q e h = rw (← p, ← q, ← e) h
+pair-in-turn : (w : Bool) (c d : Cond) (r : Row) → narrowOf (pairOf w c d) w r ≡ thenRow (narrowOf c w r) (narrowOf d w)
+unfolding pairOf narrowOf
+pair-in-turn true c d r = refl
+pair-in-turn false c d r = refl
 
-module _ (ns : List ℤ) (r u v : Row) (n : ℕ) (m : List ℕ) where
-  pub compare-splits : {k : Comparison} {x y : ℕ} {i j : Interval} {d : Decision} {s t : Maybe} {m′ m″ : List ℕ} → shapeOf ns n ≡ Compare k x y → Valued ns r x m i m′ → Valued ns r y m′ j m″ → (d ≡ compareOf k i j) × ((s ≡ narrowOf (compare 0 k (arithAt ns x) (arithAt ns y)) true u) × (t ≡ narrowOf (compare 0 k (arithAt ns x) (arithAt ns y)) false v)) → Splits (condAt ns n) r u v m d s t m″
+pair-joined : (w : Bool) (c d : Cond) (r : Row) → narrowOf (pairOf w c d) (not w) r ≡ joinRowsOf (narrowOf c (not w) r) (narrowOf d (not w) r)
+unfolding pairOf narrowOf
+pair-joined true c d r = refl
+pair-joined false c d r = refl
+
+-- the left and then the right side, each decided on the row that is read: one row is narrowed by both in turn, and what their opposites leave of the other
+-- is joined to j
+pub in-turn-splits :
+    (c d : Cond) (w : Bool) (r u v : Row) (j : Maybe) (m : List ℕ) {p q b : Decision} (f f′ : Bool) (y y′ y″ : Row) {z z′ : Maybe} {m′ m″ : List ℕ}
+    → Splits c w r u v j m p (maybeBy f y) z m′ → maybeBy f y′ ≡ maybeBy f y → Splits d w r y′ v z m′ q (maybeBy f′ y″) z′ m″ → b ≡ combinedOf w p q
+    → Splits (pairOf w c d) w r u v j m b (maybeBy (f && f′) y″) z′ m″
+in-turn-splits c d w r u v j m f f′ y y′ y″ h k l e =
+    rw (pair-decided w c d r, pair-in-turn w c d u, pair-joined w c d v, pair-alarms w c d r) (
+      rw (← h .0, ← l .0) e,
+      (
+        rw (← h .1 .0) (in-turn (narrowOf d w) f f′ y y′ y″ k (l .1 .0)),
+        (
+          l .1 .1 .0 ∙ ap (λ (t : Maybe). joinRowsOf t (narrowOf d (not w) v)) (h .1 .1 .0) ∙ joinRows-assoc j _ _,
+          marked-then _ _ m (h .1 .1 .1) (l .1 .1 .1),
+        ),
+      ),
+    )
+
+not-not : (w : Bool) → not (not w) ≡ w
+not-not true = refl
+not-not false = refl
+
+-- the same of the opposite truth, with nothing joined before: y is what the opposite leaves of the row v, and z what is left of the row u
+abbrev Turned : Cond → Bool → Row → Row → Row → List ℕ → Decision → Maybe → Maybe → List ℕ → Type 0
+Turned c w r u v m d y z m′ = (d ≡ decisionOf c r) × ((y ≡ narrowOf c (not w) v) × ((z ≡ narrowOf c w u) × (m′ ≡ markedOf m (condAlarmsOf c r))))
+
+pub turned :
+    (c : Cond) (w : Bool) (r u v q : Row) (m : List ℕ) {d : Decision} {y z : Maybe} {m′ : List ℕ}
+    → Splits c (not w) r v u (maybeBy false q) m d y z m′ → Turned c w r u v m d y z m′
+unfolding maybeBy joinRowsOf
+turned c w r u v q m h = (h .0, (h .1 .0, (rw (not-not w) at (h .1 .1 .0), h .1 .1 .1)))
+
+-- where u is a copy, the row that is read serves for it
+pub turned-copy :
+    (c : Cond) (w : Bool) (r v q : Row) (m : List ℕ) {u : Row} {d : Decision} {y z : Maybe} {m′ : List ℕ}
+    → u ≡ r → Splits c (not w) r v r (maybeBy false q) m d y z m′ → Turned c w r u v m d y z m′
+turned-copy c w r v q m e h = rw e (turned c w r r v q m h)
+
+pub turned-joined :
+    (c : Cond) (w : Bool) (r u v : Row) (j : Maybe) (m : List ℕ) {d : Decision} {y z o : Maybe} {m′ : List ℕ}
+    → Turned c w r u v m d y z m′ → o ≡ joinRowsOf j y → Splits c w r u v j m d z o m′
+turned-joined c w r u v j m h e = (h .0, (h .1 .1 .0, (rw (← h .1 .0) e, h .1 .1 .1)))
+
+-- ---- a comparison: its cuts on the row, put in place of the intervals of its variables
+pub cuts-known :
+    (ns : List ℤ) (r : Row) (k : Comparison) (w : Bool) (x y : ℕ) {i j : Interval} {u : Cuts}
+    → i ≡ valueOf (arithAt ns x) r → j ≡ valueOf (arithAt ns y) r → u ≡ cutsOf k w i j → u ≡ cutsOf k w (valueOf (arithAt ns x) r) (valueOf (arithAt ns y) r)
+cuts-known ns r k w x y p q e = rw (← p, ← q) e
+
+pub cut-leaves :
+    (ns ws : List ℤ) (k : Comparison) (t : Bool) (x y : ℕ) {v w : ℕ} {u : Cuts}
+    → v ≡ variableOr 16 (arithAt ns x) → w ≡ variableOr 17 (arithAt ns y)
+    → u ≡ cutsOf k t (valueOf (arithAt ns x) (rowIn ws)) (valueOf (arithAt ns y) (rowIn ws))
+    → cutRowOf (rowIn ws) v w u ≡ narrowOf (compare 0 k (arithAt ns x) (arithAt ns y)) t (rowIn ws)
+cut-leaves ns ws k t x y p q e = rw (p, q, e) (sym (narrow-cuts 0 k (arithAt ns x) (arithAt ns y) t (rowIn ws) (few-lows ws) (few-highs ws)))
+
+-- one variable on both sides has a slot
+pub one-slot : (x y : Arith) {v w : ℕ} → v ≡ variableOr 16 x → w ≡ variableOr 17 y → v ≡ w → v < 16
+one-slot x y p q e = rw p (slots-differ x y (sym p ∙ e ∙ q))
+
+-- ---- a condition's node. Its number stands in nothing that the condition says
+both-any : (n : ℕ) (c d : Cond) (w : Bool) (r : Row) → narrowOf (both n c d) w r ≡ narrowOf (both 0 c d) w r
+unfolding narrowOf
+both-any n c d true r = refl
+both-any n c d false r = refl
+
+either-any : (n : ℕ) (c d : Cond) (w : Bool) (r : Row) → narrowOf (either n c d) w r ≡ narrowOf (either 0 c d) w r
+unfolding narrowOf
+either-any n c d true r = refl
+either-any n c d false r = refl
+
+not-any : (n : ℕ) (c : Cond) (w : Bool) (r : Row) → narrowOf (isNot n c) w r ≡ narrowOf c (not w) r
+unfolding narrowOf
+not-any n c true r = refl
+not-any n c false r = refl
+
+none-wanted : (n : ℕ) (w : Bool) (r : Row) → narrowOf (noCond n) w r ≡ maybeBy (not w) r
+unfolding narrowOf maybeBy
+none-wanted n true r = refl
+none-wanted n false r = refl
+
+module _ (ns : List ℤ) (w : Bool) (r u v : Row) (l : Maybe) (n : ℕ) (m : List ℕ) where
+  pub compare-splits : {k : Comparison} {x y : ℕ} {i j : Interval} {d : Decision} {s t : Maybe} {m′ m″ : List ℕ} → shapeOf ns n ≡ Compare k x y → Valued ns r x m i m′ → Valued ns r y m′ j m″ → (d ≡ compareOf k i j) × ((s ≡ narrowOf (compare 0 k (arithAt ns x) (arithAt ns y)) w u) × (t ≡ joinRowsOf l (narrowOf (compare 0 k (arithAt ns x) (arithAt ns y)) (not w) v))) → Splits (condAt ns n) w r u v l m d s t m″
   unfolding condBy valueOf
-  compare-splits e h l p = rw (cond-of ns n e, ← h .0, ← l .0) (p .0, (p .1 .0, (p .1 .1, marked-then _ _ m (h .1) (l .1))))
+  compare-splits e h g p = rw (cond-of ns n e, ← h .0, ← g .0) (p .0, (p .1 .0, (p .1 .1, marked-then _ _ m (h .1) (g .1))))
 
-  -- the number of a condition's node stands in nothing of it
-  pub both-node-splits : {x y : ℕ} {d : Decision} {s t : Maybe} {m′ : List ℕ} → shapeOf ns n ≡ Both x y → Splits (both 0 (condAt ns x) (condAt ns y)) r u v m d s t m′ → Splits (condAt ns n) r u v m d s t m′
-  unfolding condBy valueOf
-  both-node-splits e h = rw (cond-of ns n e) h
+  pub both-node-splits : {x y : ℕ} {a : Bool} {d : Decision} {s t : Maybe} {m′ : List ℕ} → shapeOf ns n ≡ Both x y → a ≡ true → Splits (pairOf a (condAt ns x) (condAt ns y)) w r u v l m d s t m′ → Splits (condAt ns n) w r u v l m d s t m′
+  unfolding condBy valueOf pairOf
+  both-node-splits {x} {y} e f h = rw (cond-of ns n e, both-any n (condAt ns x) (condAt ns y) w u, both-any n (condAt ns x) (condAt ns y) (not w) v) (rw f at h)
 
-  pub either-node-splits : {x y : ℕ} {d : Decision} {s t : Maybe} {m′ : List ℕ} → shapeOf ns n ≡ Either x y → Splits (either 0 (condAt ns x) (condAt ns y)) r u v m d s t m′ → Splits (condAt ns n) r u v m d s t m′
-  unfolding condBy valueOf
-  either-node-splits e h = rw (cond-of ns n e) h
+  pub either-node-splits : {x y : ℕ} {a : Bool} {d : Decision} {s t : Maybe} {m′ : List ℕ} → shapeOf ns n ≡ Either x y → a ≡ false → Splits (pairOf a (condAt ns x) (condAt ns y)) w r u v l m d s t m′ → Splits (condAt ns n) w r u v l m d s t m′
+  unfolding condBy valueOf pairOf
+  either-node-splits {x} {y} e f h = rw (cond-of ns n e, either-any n (condAt ns x) (condAt ns y) w u, either-any n (condAt ns x) (condAt ns y) (not w) v) (rw f at h)
 
-  -- the two rows exchanged
-  pub not-splits : {x : ℕ} {d b : Decision} (f g f′ g′ : Bool) (y z : Row) {m′ : List ℕ} → shapeOf ns n ≡ Not x → Splits (condAt ns x) r v u m d (maybeBy f z) (maybeBy g y) m′ → (b ≡ oppositeOf d) × ((f′ ≡ g) × (g′ ≡ f)) → Splits (condAt ns n) r u v m b (maybeBy f′ y) (maybeBy g′ z) m′
+  -- the truth exchanged
+  pub not-splits : {x : ℕ} {d b : Decision} (f g f′ g′ : Bool) (y z : Row) {m′ : List ℕ} → shapeOf ns n ≡ Not x → Splits (condAt ns x) (not w) r u v l m d (maybeBy f y) (maybeBy g z) m′ → (b ≡ oppositeOf d) × ((f′ ≡ f) × (g′ ≡ g)) → Splits (condAt ns n) w r u v l m b (maybeBy f′ y) (maybeBy g′ z) m′
   unfolding condBy valueOf
-  not-splits f g f′ g′ y z e h p = rw (cond-of ns n e, ← h .0, p .1 .0, p .1 .1) (p .0, (h .1 .1 .0, (h .1 .0, h .1 .1 .1)))
+  not-splits {x} f g f′ g′ y z e h p = rw (cond-of ns n e, not-any n (condAt ns x) w u, not-any n (condAt ns x) (not w) v, ← h .0, p .1 .0, p .1 .1) (p .0, h .1)
 
   -- a node that is no condition
-  pub no-splits : (s : Shape) {b : Decision} (f g : Bool) → shapeOf ns n ≡ s → OneOf others (tagOf the-type s) → (b ≡ decision false true) × ((f ≡ false) × (g ≡ true)) → Splits (condAt ns n) r u v m b (maybeBy f u) (maybeBy g v) m
-  unfolding valueOf maybeBy markedOf
-  no-splits s f g e h p = rw (cond-of ns n e, others-are (arithAt ns) (condAt ns) n s h, p .1 .0, p .1 .1) (p .0, (refl, (refl, refl)))
+  pub no-splits : (s : Shape) {b : Decision} (f : Bool) {z : Maybe} → shapeOf ns n ≡ s → OneOf others (tagOf the-type s) → (b ≡ decision false true) × ((f ≡ not w) × (z ≡ joinRowsOf l (maybeBy w v))) → Splits (condAt ns n) w r u v l m b (maybeBy f u) z m
+  unfolding decisionOf condAlarmsOf markedOf
+  no-splits s f e h p = rw (cond-of ns n e, others-are (arithAt ns) (condAt ns) n s h, none-wanted n w u, none-wanted n (not w) v, not-not w, p .1 .0) (p .0, (refl, (p .1 .1, refl)))
 
 -- ---- rows that are lent
 -- where the row is a copy of the one that is read, a comparison's sides are known on it

@@ -8,9 +8,11 @@ use lib.Dec.{ltb}
 use lib.IntN.{ℤ, pos}
 use lib.ListN.{replicate}
 use Rattle.interval.specs.Integer.{minZ, maxZ}
+use Rattle.interval.specs.Compare.{bothOf, eitherOf}
+use Rattle.interval.specs.declared.Decision.{Decision}
 use Rattle.interval.specs.declared.Interval.{Interval}
 use Rattle.words.specs.Words.{partOf}
-use Rattle.table.specs.Tree.{Cond, arithAt}
+use Rattle.table.specs.Tree.{Cond, both, either, arithAt}
 use Rattle.analysis.specs.declared.Split.{Split}
 use Rattle.analysis.specs.Rows.{Row, rowOf, Maybe, none, some}
 use Rattle.analysis.specs.Analysis.{valueOf, decisionOf, narrowOf}
@@ -35,6 +37,15 @@ leftOf (some r) = r
 -- what a condition says of a row: its decision, and which of the two narrowings leave a row
 abbrev pub splitOf : Cond → Row → Split
 splitOf c r = record { decision = decisionOf c r; yes = isSome (narrowOf c true r); no = isSome (narrowOf c false r) }
+
+-- ---- two conditions in one: both of them, or either
+unfoldable pub pairOf : Bool → Cond → Cond → Cond
+pairOf true c d = both 0 c d
+pairOf false c d = either 0 c d
+
+unfoldable pub combinedOf : Bool → Decision → Decision → Decision
+combinedOf true d e = bothOf d e
+combinedOf false d e = eitherOf d e
 
 -- ---- what is known of an array that is lent
 -- where it is told so, its words are those of the row that is read

@@ -3,11 +3,12 @@
 // again, without alarms, only for a row that isn't a copy of that. No comparison makes a row. A choice by a comparison makes one for a branch that the
 // decision allows; a choice by any other condition one for each branch, and a 'both' or 'either' one for its right side. A point's row is read where it lies
 // in the proposal (`value_on`).
-use crate::Copies;
+use crate::Asked;
 use crate::Row;
+use crate::Said;
 use crate::Split;
 use crate::alarms::mark_told;
-use crate::narrow::carry_both;
+use crate::narrow::add_cuts;
 use crate::narrow::put_cuts;
 use crate::narrow::variable_or;
 use crate::rows::clear_unless;
@@ -32,14 +33,15 @@ use interval::narrow::cuts;
 use table::Shape;
 use table::decode::shape_at;
 ghost use mathlib.Core.Path.{_≡_};
-ghost use mathlib.Core.Bool.{true, false};
+ghost use mathlib.Core.Bool.{true, false, not};
 ghost use Rattle.interval.specs.Compare.{decision, oppositeOf, compareOf};
-ghost use Rattle.table.specs.Tree.{choice, compare, both, either, arithAt, condAt};
-ghost use Rattle.analysis.specs.Rows.{rowOf, ownOf, maybeBy, rowIf};
+ghost use Rattle.interval.specs.Narrow.{cutsOf};
+ghost use Rattle.table.specs.Tree.{choice, compare, arithAt, condAt};
+ghost use Rattle.analysis.specs.Rows.{rowOf, ownOf, maybeBy, rowIf, joinRowsOf};
 ghost use Rattle.analysis.specs.Alarms.{markedOf};
 ghost use Rattle.analysis.specs.Analysis.{valueOf, alarmsOf, decisionOf, condAlarmsOf, narrowOf, rangeOn, alarmsOn};
 ghost use Rattle.analysis.specs.Cuts.{cutRowOf};
-ghost use Rattle.analysis.specs.Arrays.{rowIn, leftOf, splitOf, CopyIf, KnownIf};
+ghost use Rattle.analysis.specs.Arrays.{rowIn, leftOf, splitOf, pairOf, combinedOf, CopyIf, KnownIf};
 
 // The interval of the arithmetic node n on a row in an array.
 pub fn value<'a, 'b, 'c>(nodes: &'a [i32], n: usize, row: &'b Row, marks: &'c mut [u8]) -> Interval
@@ -149,15 +151,17 @@ fn choose_split<'a, 'b, 'c>(
     ensures { λ r. ⌜ now (marks .exit) ≡ markedOf (now (marks .entry)) (alarmsOf (choice 0 (condAt (now (nodes .entry)) c) (arithAt (now (nodes .entry)) a) (arithAt (now (nodes .entry)) b)) (rowIn (now (row .entry)))) ⌝ }
 {
     let mut yes = *row;
-    let mut no = *row;
-    let copies = Copies {
-        yes: true,
-        no: true,
+    let mut no = [0i32; 32];
+    let asked = Asked {
+        truth: true,
+        copy: true,
+        from_copy: true,
+        some: false,
     };
-    let s = split(nodes, c, row, marks, copies, &mut yes, &mut no);
+    let s = split(nodes, c, row, marks, asked, &mut yes, row, &mut no);
     let d = s.decision;
-    let x = branch(d.yes & s.yes, nodes, a, &yes, marks);
-    let y = branch(d.no & s.no, nodes, b, &no, marks);
+    let x = branch(d.yes & s.narrowed, nodes, a, &yes, marks);
+    let y = branch(d.no & s.joined, nodes, b, &no, marks);
     join(x, y)
 }
 
@@ -179,21 +183,22 @@ fn branch<'a, 'b, 'c>(
     }
 }
 
-// What the condition node n says of the row: its decision, with its alarms. In their places the row yes is narrowed by the condition, and the row no by
-// its opposite.
+// What the condition node n says of the row: its decision, with its alarms. The row narrowed is narrowed in its place by the truth that is asked for. What
+// the opposite leaves of the row from is joined to the row joined, if there is one, in that one's place.
 fn split<'a, 'b, 'c, 'd, 'e>(
     nodes: &'a [i32],
     n: usize,
     row: &'b Row,
     marks: &'c mut [u8],
-    copies: Copies,
-    yes: &'d mut Row,
-    no: &'e mut Row,
-) -> Split
-    requires { ⌜ CopyIf (copies .yes) (now yes) (now row) × CopyIf (copies .no) (now no) (now row) ⌝ }
+    asked: Asked,
+    narrowed: &'d mut Row,
+    from: &'b Row,
+    joined: &'e mut Row,
+) -> Said
+    requires { ⌜ CopyIf (asked .copy) (now narrowed) (now row) × CopyIf (asked .«from_copy») (now from) (now row) ⌝ }
     ensures { λ r. ⌜ r .decision ≡ decisionOf (condAt (now (nodes .entry)) n) (rowIn (now (row .entry))) ⌝ }
-    ensures { λ r. ⌜ maybeBy (r .yes) (rowIn (now (yes .exit))) ≡ narrowOf (condAt (now (nodes .entry)) n) true (rowIn (now (yes .entry))) ⌝ }
-    ensures { λ r. ⌜ maybeBy (r .no) (rowIn (now (no .exit))) ≡ narrowOf (condAt (now (nodes .entry)) n) false (rowIn (now (no .entry))) ⌝ }
+    ensures { λ r. ⌜ maybeBy (r .narrowed) (rowIn (now (narrowed .exit))) ≡ narrowOf (condAt (now (nodes .entry)) n) (asked .truth) (rowIn (now (narrowed .entry))) ⌝ }
+    ensures { λ r. ⌜ maybeBy (r .joined) (rowIn (now (joined .exit))) ≡ joinRowsOf (maybeBy (asked .some) (rowIn (now (joined .entry)))) (narrowOf (condAt (now (nodes .entry)) n) (not (asked .truth)) (rowIn (now (from .entry)))) ⌝ }
     ensures { λ r. ⌜ now (marks .exit) ≡ markedOf (now (marks .entry)) (condAlarmsOf (condAt (now (nodes .entry)) n) (rowIn (now (row .entry)))) ⌝ }
 {
     let shape = shape_at(nodes, n);
@@ -201,121 +206,199 @@ fn split<'a, 'b, 'c, 'd, 'e>(
         Shape::Compare(k, a, b) => {
             let x = value(nodes, a, row, marks);
             let y = value(nodes, b, row, marks);
-            split_by(nodes, k, a, b, x, y, copies, yes, no)
+            split_by(nodes, k, a, b, x, y, asked, narrowed, from, joined)
         }
-        Shape::Both(a, b) => split_both(nodes, a, b, row, marks, copies, yes, no),
-        Shape::Either(a, b) => split_either(nodes, a, b, row, marks, copies, yes, no),
+        Shape::Both(a, b) => {
+            if asked.truth {
+                split_in_turn(nodes, a, b, row, marks, asked, narrowed, from, joined)
+            } else {
+                split_joined(nodes, a, b, row, marks, asked, narrowed, from, joined)
+            }
+        }
+        Shape::Either(a, b) => {
+            if asked.truth {
+                split_joined(nodes, a, b, row, marks, asked, narrowed, from, joined)
+            } else {
+                split_in_turn(nodes, a, b, row, marks, asked, narrowed, from, joined)
+            }
+        }
         Shape::Not(a) => {
-            let turned = Copies {
-                yes: copies.no,
-                no: copies.yes,
+            let turned = Asked {
+                truth: !asked.truth,
+                copy: asked.copy,
+                from_copy: asked.from_copy,
+                some: asked.some,
             };
-            opposed(split(nodes, a, row, marks, turned, no, yes))
+            opposed(split(nodes, a, row, marks, turned, narrowed, from, joined))
         }
-        _ => no_condition(),
+        _ => no_condition(asked, from, joined),
     }
 }
 
-// Both of two conditions. The right side is decided on the row that is read, and narrows what the left side left of the row yes.
-fn split_both<'a, 'b, 'c, 'd, 'e>(
+// The row narrowed is narrowed by the left side and then by the right; what their opposites leave of the row from is joined. No row is made. The right
+// side is decided on the row that is read.
+fn split_in_turn<'a, 'b, 'c, 'd, 'e>(
     nodes: &'a [i32],
     a: usize,
     b: usize,
     row: &'b Row,
     marks: &'c mut [u8],
-    copies: Copies,
-    yes: &'d mut Row,
-    no: &'e mut Row,
-) -> Split
-    requires { ⌜ CopyIf (copies .yes) (now yes) (now row) × CopyIf (copies .no) (now no) (now row) ⌝ }
-    ensures { λ r. ⌜ r .decision ≡ decisionOf (both 0 (condAt (now (nodes .entry)) a) (condAt (now (nodes .entry)) b)) (rowIn (now (row .entry))) ⌝ }
-    ensures { λ r. ⌜ maybeBy (r .yes) (rowIn (now (yes .exit))) ≡ narrowOf (both 0 (condAt (now (nodes .entry)) a) (condAt (now (nodes .entry)) b)) true (rowIn (now (yes .entry))) ⌝ }
-    ensures { λ r. ⌜ maybeBy (r .no) (rowIn (now (no .exit))) ≡ narrowOf (both 0 (condAt (now (nodes .entry)) a) (condAt (now (nodes .entry)) b)) false (rowIn (now (no .entry))) ⌝ }
-    ensures { λ r. ⌜ now (marks .exit) ≡ markedOf (now (marks .entry)) (condAlarmsOf (both 0 (condAt (now (nodes .entry)) a) (condAt (now (nodes .entry)) b)) (rowIn (now (row .entry)))) ⌝ }
+    asked: Asked,
+    narrowed: &'d mut Row,
+    from: &'b Row,
+    joined: &'e mut Row,
+) -> Said
+    requires { ⌜ CopyIf (asked .copy) (now narrowed) (now row) × CopyIf (asked .«from_copy») (now from) (now row) ⌝ }
+    ensures { λ r. ⌜ r .decision ≡ decisionOf (pairOf (asked .truth) (condAt (now (nodes .entry)) a) (condAt (now (nodes .entry)) b)) (rowIn (now (row .entry))) ⌝ }
+    ensures { λ r. ⌜ maybeBy (r .narrowed) (rowIn (now (narrowed .exit))) ≡ narrowOf (pairOf (asked .truth) (condAt (now (nodes .entry)) a) (condAt (now (nodes .entry)) b)) (asked .truth) (rowIn (now (narrowed .entry))) ⌝ }
+    ensures { λ r. ⌜ maybeBy (r .joined) (rowIn (now (joined .exit))) ≡ joinRowsOf (maybeBy (asked .some) (rowIn (now (joined .entry)))) (narrowOf (pairOf (asked .truth) (condAt (now (nodes .entry)) a) (condAt (now (nodes .entry)) b)) (not (asked .truth)) (rowIn (now (from .entry)))) ⌝ }
+    ensures { λ r. ⌜ now (marks .exit) ≡ markedOf (now (marks .entry)) (condAlarmsOf (pairOf (asked .truth) (condAt (now (nodes .entry)) a) (condAt (now (nodes .entry)) b)) (rowIn (now (row .entry)))) ⌝ }
 {
-    let mut more = *no;
-    let s = split(nodes, a, row, marks, copies, yes, no);
-    let next = Copies {
-        yes: is_copy(s.yes, yes, row),
-        no: copies.no,
+    let s = split(nodes, a, row, marks, asked, narrowed, from, joined);
+    let next = Asked {
+        truth: asked.truth,
+        copy: is_copy(s.narrowed, narrowed, row),
+        from_copy: asked.from_copy,
+        some: s.joined,
     };
-    let t = split(nodes, b, row, marks, next, yes, &mut more);
-    let joined = join_rows(s.no, no, t.no, &more);
+    let t = split(nodes, b, row, marks, next, narrowed, from, joined);
     let d = s.decision;
     let e = t.decision;
-    let f = both(d, e);
-    Split {
+    let f = combine(asked.truth, d, e);
+    Said {
         decision: f,
-        yes: s.yes & t.yes,
-        no: joined,
+        narrowed: s.narrowed & t.narrowed,
+        joined: t.joined,
     }
 }
 
-// Either of two conditions, the other way round.
-fn split_either<'a, 'b, 'c, 'd, 'e>(
+// The other way round: what both sides leave of the row narrowed is joined, and their opposites narrow the row from in turn. Where something was joined
+// before, they need a row of their own.
+fn split_joined<'a, 'b, 'c, 'd, 'e>(
     nodes: &'a [i32],
     a: usize,
     b: usize,
     row: &'b Row,
     marks: &'c mut [u8],
-    copies: Copies,
-    yes: &'d mut Row,
-    no: &'e mut Row,
-) -> Split
-    requires { ⌜ CopyIf (copies .yes) (now yes) (now row) × CopyIf (copies .no) (now no) (now row) ⌝ }
-    ensures { λ r. ⌜ r .decision ≡ decisionOf (either 0 (condAt (now (nodes .entry)) a) (condAt (now (nodes .entry)) b)) (rowIn (now (row .entry))) ⌝ }
-    ensures { λ r. ⌜ maybeBy (r .yes) (rowIn (now (yes .exit))) ≡ narrowOf (either 0 (condAt (now (nodes .entry)) a) (condAt (now (nodes .entry)) b)) true (rowIn (now (yes .entry))) ⌝ }
-    ensures { λ r. ⌜ maybeBy (r .no) (rowIn (now (no .exit))) ≡ narrowOf (either 0 (condAt (now (nodes .entry)) a) (condAt (now (nodes .entry)) b)) false (rowIn (now (no .entry))) ⌝ }
-    ensures { λ r. ⌜ now (marks .exit) ≡ markedOf (now (marks .entry)) (condAlarmsOf (either 0 (condAt (now (nodes .entry)) a) (condAt (now (nodes .entry)) b)) (rowIn (now (row .entry)))) ⌝ }
+    asked: Asked,
+    narrowed: &'d mut Row,
+    from: &'b Row,
+    joined: &'e mut Row,
+) -> Said
+    requires { ⌜ CopyIf (asked .copy) (now narrowed) (now row) × CopyIf (asked .«from_copy») (now from) (now row) ⌝ }
+    ensures { λ r. ⌜ r .decision ≡ decisionOf (pairOf (not (asked .truth)) (condAt (now (nodes .entry)) a) (condAt (now (nodes .entry)) b)) (rowIn (now (row .entry))) ⌝ }
+    ensures { λ r. ⌜ maybeBy (r .narrowed) (rowIn (now (narrowed .exit))) ≡ narrowOf (pairOf (not (asked .truth)) (condAt (now (nodes .entry)) a) (condAt (now (nodes .entry)) b)) (asked .truth) (rowIn (now (narrowed .entry))) ⌝ }
+    ensures { λ r. ⌜ maybeBy (r .joined) (rowIn (now (joined .exit))) ≡ joinRowsOf (maybeBy (asked .some) (rowIn (now (joined .entry)))) (narrowOf (pairOf (not (asked .truth)) (condAt (now (nodes .entry)) a) (condAt (now (nodes .entry)) b)) (not (asked .truth)) (rowIn (now (from .entry)))) ⌝ }
+    ensures { λ r. ⌜ now (marks .exit) ≡ markedOf (now (marks .entry)) (condAlarmsOf (pairOf (not (asked .truth)) (condAt (now (nodes .entry)) a) (condAt (now (nodes .entry)) b)) (rowIn (now (row .entry)))) ⌝ }
 {
-    let mut more = *yes;
-    let s = split(nodes, a, row, marks, copies, yes, no);
-    let next = Copies {
-        yes: copies.yes,
-        no: is_copy(s.no, no, row),
-    };
-    let t = split(nodes, b, row, marks, next, &mut more, no);
-    let joined = join_rows(s.yes, yes, t.yes, &more);
-    let d = s.decision;
-    let e = t.decision;
-    let f = either(d, e);
-    Split {
-        decision: f,
-        yes: joined,
-        no: s.no & t.no,
+    if asked.some {
+        return split_apart(nodes, a, b, row, marks, asked, narrowed, from, joined);
     }
+    *joined = *from;
+    let s = split_turned(nodes, a, b, row, marks, asked, narrowed, joined);
+    let d = s.decision;
+    Said {
+        decision: d,
+        narrowed: s.joined,
+        joined: s.narrowed,
+    }
+}
+
+// That row is made here, and joined to what was there.
+fn split_apart<'a, 'b, 'c, 'd, 'e>(
+    nodes: &'a [i32],
+    a: usize,
+    b: usize,
+    row: &'b Row,
+    marks: &'c mut [u8],
+    asked: Asked,
+    narrowed: &'d mut Row,
+    from: &'b Row,
+    joined: &'e mut Row,
+) -> Said
+    requires { ⌜ CopyIf (asked .copy) (now narrowed) (now row) × CopyIf (asked .«from_copy») (now from) (now row) ⌝ }
+    ensures { λ r. ⌜ r .decision ≡ decisionOf (pairOf (not (asked .truth)) (condAt (now (nodes .entry)) a) (condAt (now (nodes .entry)) b)) (rowIn (now (row .entry))) ⌝ }
+    ensures { λ r. ⌜ maybeBy (r .narrowed) (rowIn (now (narrowed .exit))) ≡ narrowOf (pairOf (not (asked .truth)) (condAt (now (nodes .entry)) a) (condAt (now (nodes .entry)) b)) (asked .truth) (rowIn (now (narrowed .entry))) ⌝ }
+    ensures { λ r. ⌜ maybeBy (r .joined) (rowIn (now (joined .exit))) ≡ joinRowsOf (maybeBy (asked .some) (rowIn (now (joined .entry)))) (narrowOf (pairOf (not (asked .truth)) (condAt (now (nodes .entry)) a) (condAt (now (nodes .entry)) b)) (not (asked .truth)) (rowIn (now (from .entry)))) ⌝ }
+    ensures { λ r. ⌜ now (marks .exit) ≡ markedOf (now (marks .entry)) (condAlarmsOf (pairOf (not (asked .truth)) (condAt (now (nodes .entry)) a) (condAt (now (nodes .entry)) b)) (rowIn (now (row .entry)))) ⌝ }
+{
+    let mut own = *from;
+    let s = split_turned(nodes, a, b, row, marks, asked, narrowed, &mut own);
+    let more = join_rows(asked.some, joined, s.narrowed, &own);
+    let d = s.decision;
+    Said {
+        decision: d,
+        narrowed: s.joined,
+        joined: more,
+    }
+}
+
+// The opposites narrow the row own in turn, and what both sides leave of the row narrowed is joined in its place. They read it while it is written: a row is
+// made for that, if it is no copy of the row that is read.
+fn split_turned<'a, 'b, 'c, 'd, 'e>(
+    nodes: &'a [i32],
+    a: usize,
+    b: usize,
+    row: &'b Row,
+    marks: &'c mut [u8],
+    asked: Asked,
+    narrowed: &'d mut Row,
+    own: &'e mut Row,
+) -> Said
+    requires { ⌜ CopyIf (asked .copy) (now narrowed) (now row) × CopyIf (asked .«from_copy») (now own) (now row) ⌝ }
+    ensures { λ r. ⌜ r .decision ≡ decisionOf (pairOf (not (asked .truth)) (condAt (now (nodes .entry)) a) (condAt (now (nodes .entry)) b)) (rowIn (now (row .entry))) ⌝ }
+    ensures { λ r. ⌜ maybeBy (r .narrowed) (rowIn (now (own .exit))) ≡ narrowOf (pairOf (not (asked .truth)) (condAt (now (nodes .entry)) a) (condAt (now (nodes .entry)) b)) (not (asked .truth)) (rowIn (now (own .entry))) ⌝ }
+    ensures { λ r. ⌜ maybeBy (r .joined) (rowIn (now (narrowed .exit))) ≡ narrowOf (pairOf (not (asked .truth)) (condAt (now (nodes .entry)) a) (condAt (now (nodes .entry)) b)) (asked .truth) (rowIn (now (narrowed .entry))) ⌝ }
+    ensures { λ r. ⌜ now (marks .exit) ≡ markedOf (now (marks .entry)) (condAlarmsOf (pairOf (not (asked .truth)) (condAt (now (nodes .entry)) a) (condAt (now (nodes .entry)) b)) (rowIn (now (row .entry)))) ⌝ }
+{
+    let turned = Asked {
+        truth: !asked.truth,
+        copy: asked.from_copy,
+        from_copy: asked.copy,
+        some: false,
+    };
+    if asked.copy {
+        return split_in_turn(nodes, a, b, row, marks, turned, own, row, narrowed);
+    }
+    let read = *narrowed;
+    split_in_turn(nodes, a, b, row, marks, turned, own, &read, narrowed)
 }
 
 // A comparison of the arithmetic nodes a and b, whose intervals on the row that is read are x and y.
-fn split_by<'a, 'd, 'e>(
+fn split_by<'a, 'b, 'd, 'e>(
     nodes: &'a [i32],
     k: Comparison,
     a: usize,
     b: usize,
     x: Interval,
     y: Interval,
-    copies: Copies,
-    yes: &'d mut Row,
-    no: &'e mut Row,
-) -> Split
-    requires { ⌜ KnownIf (copies .yes) (now nodes) a b x y (now yes) × KnownIf (copies .no) (now nodes) a b x y (now no) ⌝ }
+    asked: Asked,
+    narrowed: &'d mut Row,
+    from: &'b Row,
+    joined: &'e mut Row,
+) -> Said
+    requires { ⌜ KnownIf (asked .copy) (now nodes) a b x y (now narrowed) × KnownIf (asked .«from_copy») (now nodes) a b x y (now from) ⌝ }
     ensures { λ r. ⌜ r .decision ≡ compareOf k x y ⌝ }
-    ensures { λ r. ⌜ maybeBy (r .yes) (rowIn (now (yes .exit))) ≡ narrowOf (compare 0 k (arithAt (now (nodes .entry)) a) (arithAt (now (nodes .entry)) b)) true (rowIn (now (yes .entry))) ⌝ }
-    ensures { λ r. ⌜ maybeBy (r .no) (rowIn (now (no .exit))) ≡ narrowOf (compare 0 k (arithAt (now (nodes .entry)) a) (arithAt (now (nodes .entry)) b)) false (rowIn (now (no .entry))) ⌝ }
+    ensures { λ r. ⌜ maybeBy (r .narrowed) (rowIn (now (narrowed .exit))) ≡ narrowOf (compare 0 k (arithAt (now (nodes .entry)) a) (arithAt (now (nodes .entry)) b)) (asked .truth) (rowIn (now (narrowed .entry))) ⌝ }
+    ensures { λ r. ⌜ maybeBy (r .joined) (rowIn (now (joined .exit))) ≡ joinRowsOf (maybeBy (asked .some) (rowIn (now (joined .entry)))) (narrowOf (compare 0 k (arithAt (now (nodes .entry)) a) (arithAt (now (nodes .entry)) b)) (not (asked .truth)) (rowIn (now (from .entry)))) ⌝ }
 {
     let d = compare(k, x, y);
-    let left = cut(nodes, k, true, a, b, x, y, copies.yes, yes);
-    let other = cut(nodes, k, false, a, b, x, y, copies.no, no);
-    Split {
+    let v = variable_or(nodes, a, 16);
+    let w = variable_or(nodes, b, 17);
+    let kept = cuts_on(nodes, k, asked.truth, a, b, x, y, asked.copy, &*narrowed);
+    let left = put_cuts(narrowed, v, w, kept);
+    let added = cuts_on(nodes, k, !asked.truth, a, b, x, y, asked.from_copy, from);
+    let more = add_cuts(asked.some, joined, v, w, added, from);
+    Said {
         decision: d,
-        yes: left,
-        no: other,
+        narrowed: left,
+        joined: more,
     }
 }
 
-// The row that is left where the comparison has the truth wanted. If x and y are known to be the sides' intervals on this row, they serve; else both
+// The cuts by which the comparison has the truth wanted on a row. If x and y are known to be the sides' intervals on this row, they serve; else both
 // sides are evaluated on it, and no alarm is marked.
-fn cut<'a, 'b>(
+fn cuts_on<'a, 'b>(
     nodes: &'a [i32],
     k: Comparison,
     wanted: bool,
@@ -324,47 +407,56 @@ fn cut<'a, 'b>(
     x: Interval,
     y: Interval,
     known: bool,
-    row: &'b mut Row,
-) -> bool
+    row: &'b Row,
+) -> Cuts
     requires { ⌜ KnownIf known (now nodes) a b x y (now row) ⌝ }
-    ensures { λ r. ⌜ maybeBy r (rowIn (now (row .exit))) ≡ narrowOf (compare 0 k (arithAt (now (nodes .entry)) a) (arithAt (now (nodes .entry)) b)) wanted (rowIn (now (row .entry))) ⌝ }
+    ensures { λ r. ⌜ r ≡ cutsOf k wanted (valueOf (arithAt (now (nodes .entry)) a) (rowIn (now (row .entry)))) (valueOf (arithAt (now (nodes .entry)) b) (rowIn (now (row .entry)))) ⌝ }
 {
     if known {
-        return carry_both(nodes, a, b, cuts(k, wanted, x, y), row);
+        return cuts(k, wanted, x, y);
     }
     let mut unmarked = [0u8; 1];
-    let u = value(nodes, a, &*row, &mut unmarked);
-    let v = value(nodes, b, &*row, &mut unmarked);
-    carry_both(nodes, a, b, cuts(k, wanted, u, v), row)
+    let u = value(nodes, a, row, &mut unmarked);
+    let v = value(nodes, b, row, &mut unmarked);
+    cuts(k, wanted, u, v)
 }
 
-// The opposite.
-fn opposed(s: Split) -> Split
+// The decision of both conditions if all, else of either.
+fn combine(all: bool, d: Decision, e: Decision) -> Decision
+    ensures { λ r. ⌜ r ≡ combinedOf all d e ⌝ }
+{
+    if all { both(d, e) } else { either(d, e) }
+}
+
+// The opposite: the rows are those of the truth that was asked for.
+fn opposed(s: Said) -> Said
     ensures { λ r. ⌜ r .decision ≡ oppositeOf (s .decision) ⌝ }
-    ensures { λ r. ⌜ (r .yes ≡ s .no) × (r .no ≡ s .yes) ⌝ }
+    ensures { λ r. ⌜ (r .narrowed ≡ s .narrowed) × (r .joined ≡ s .joined) ⌝ }
 {
     let d = s.decision;
     let e = opposite(d);
-    Split {
+    Said {
         decision: e,
-        yes: s.no,
-        no: s.yes,
+        narrowed: s.narrowed,
+        joined: s.joined,
     }
 }
 
 // A node that is no condition is false.
-fn no_condition() -> Split
+fn no_condition<'b, 'e>(asked: Asked, from: &'b Row, joined: &'e mut Row) -> Said
     ensures { λ r. ⌜ r .decision ≡ decision false true ⌝ }
-    ensures { λ r. ⌜ (r .yes ≡ false) × (r .no ≡ true) ⌝ }
+    ensures { λ r. ⌜ r .narrowed ≡ not (asked .truth) ⌝ }
+    ensures { λ r. ⌜ maybeBy (r .joined) (rowIn (now (joined .exit))) ≡ joinRowsOf (maybeBy (asked .some) (rowIn (now (joined .entry)))) (maybeBy (asked .truth) (rowIn (now (from .entry)))) ⌝ }
 {
     let d = Decision {
         yes: false,
         no: true,
     };
-    Split {
+    let more = join_rows(asked.some, joined, asked.truth, from);
+    Said {
         decision: d,
-        yes: false,
-        no: true,
+        narrowed: !asked.truth,
+        joined: more,
     }
 }
 
@@ -421,13 +513,19 @@ pub fn sides<'a, 'b, 'c, 'd, 'e>(
     ensures { λ r. ⌜ now (marks .exit) ≡ markedOf (now (marks .entry)) (condAlarmsOf (condAt (now (nodes .entry)) n) (rowIn (now (row .entry)))) ⌝ }
 {
     *yes = *row;
-    *no = *row;
-    let copies = Copies {
-        yes: true,
-        no: true,
+    let asked = Asked {
+        truth: true,
+        copy: true,
+        from_copy: true,
+        some: false,
     };
-    let s = split(nodes, n, row, marks, copies, yes, no);
-    clear_unless(s.yes, yes);
-    clear_unless(s.no, no);
-    s
+    let s = split(nodes, n, row, marks, asked, yes, row, no);
+    clear_unless(s.narrowed, yes);
+    clear_unless(s.joined, no);
+    let d = s.decision;
+    Split {
+        decision: d,
+        yes: s.narrowed,
+        no: s.joined,
+    }
 }

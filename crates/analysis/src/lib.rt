@@ -19,10 +19,20 @@ pub struct Split {
     pub no: bool,
 }
 
-// Whether the row that is lent for 'true', and that for 'false', is a copy of the row that is read.
-pub(crate) struct Copies {
-    pub(crate) yes: bool,
-    pub(crate) no: bool,
+// What a condition is asked: the truth by which a row is narrowed in its place; whether that row is a copy of the row that is read, and whether the row
+// from which the opposite starts is one; and whether there is a row that what the opposite leaves is joined to.
+pub(crate) struct Asked {
+    pub(crate) truth: bool,
+    pub(crate) copy: bool,
+    pub(crate) from_copy: bool,
+    pub(crate) some: bool,
+}
+
+// What it says: its decision, and whether there is a row where one was narrowed and where one was joined.
+pub(crate) struct Said {
+    pub(crate) decision: Decision,
+    pub(crate) narrowed: bool,
+    pub(crate) joined: bool,
 }
 
 // A node, and the kind of error that is possible there: 1 overflow, 2 division by zero.

@@ -2,16 +2,18 @@
 use crate::Row;
 use crate::rows::meet_at;
 use crate::rows::put;
+use crate::rows::widen_cut;
 use interval::Cuts;
 use interval::Interval;
 use interval::lattice::meet;
 use table::Shape;
 use table::decode::shape_at;
 ghost use mathlib.Core.Path.{_≡_};
+ghost use Prim.Native.Nat.{_<_};
+ghost use lib.ListN.{length};
 ghost use Rattle.table.specs.Tree.{arithAt};
-ghost use Rattle.analysis.specs.Rows.{maybeBy};
+ghost use Rattle.analysis.specs.Rows.{some, maybeBy, joinRowsOf};
 ghost use Rattle.analysis.specs.Arrays.{rowIn};
-ghost use Rattle.analysis.specs.Analysis.{carryOf, carryBothOf};
 ghost use Rattle.analysis.specs.Cuts.{variableOr, cutRowOf, metIf};
 
 // The variable that the arithmetic node n is, if it has one of the sixteen slots, else the number past.
@@ -23,37 +25,6 @@ pub fn variable_or(nodes: &[i32], n: usize, past: usize) -> usize
         Shape::Variable(v) => if v < 16 { v } else { past },
         _ => past,
     }
-}
-
-// The row, where the arithmetic node n is known to lie in s. Only a variable carries that back.
-fn carry<'a, 'b>(nodes: &'a [i32], n: usize, s: Interval, row: &'b mut Row) -> bool
-    ensures { λ r. ⌜ maybeBy r (rowIn (now (row .exit))) ≡ carryOf (arithAt (now (nodes .entry)) n) s (rowIn (now (row .entry))) ⌝ }
-{
-    let Interval::Between(a, b) = s else {
-        return false;
-    };
-    let shape = shape_at(nodes, n);
-    match shape {
-        Shape::Variable(v) => meet_at(row, v, Interval::Between(a, b)),
-        _ => true,
-    }
-}
-
-pub(crate) fn carry_both<'a, 'b>(
-    nodes: &'a [i32],
-    a: usize,
-    b: usize,
-    u: Cuts,
-    row: &'b mut Row,
-) -> bool
-    ensures { λ r. ⌜ maybeBy r (rowIn (now (row .exit))) ≡ carryBothOf (arithAt (now (nodes .entry)) a) (arithAt (now (nodes .entry)) b) u (rowIn (now (row .entry))) ⌝ }
-{
-    let left = u.left;
-    let right = u.right;
-    if !carry(nodes, a, left, row) {
-        return false;
-    }
-    carry(nodes, b, right, row)
 }
 
 // The row with the cuts u of the variables v and w.
@@ -76,4 +47,42 @@ pub fn met_if(same: bool, left: Interval, right: Interval) -> Interval
     ensures { λ r. ⌜ r ≡ metIf same left right ⌝ }
 {
     if same { meet(left, right) } else { right }
+}
+
+// The row together with what the cuts u of the variables v and w leave of the row from, in the row's place.
+fn widen_by<'a, 'b>(row: &'a mut [i32], from: &'b [i32], v: usize, w: usize, u: Cuts)
+    requires { ⌜ (length (now row) ≡ 32) × (length (now from) ≡ 32) ⌝ }
+    requires { ⌜ ((v ≡ w) → (v < 16)) ⌝ }
+    ensures { λ r. ⌜ some (rowIn (now (row .exit))) ≡ joinRowsOf (some (rowIn (now (row .entry)))) (cutRowOf (rowIn (now (from .entry))) v w u) ⌝ }
+{
+    let left = u.left;
+    let right = u.right;
+    let last = met_if(v == w, left, right);
+    let Interval::Between(a, b) = left else {
+        return;
+    };
+    let Interval::Between(c, d) = last else {
+        return;
+    };
+    widen_cut(row, from, v, a, b, w, c, d);
+}
+
+// The same where there may be no row yet.
+pub(crate) fn add_cuts<'a, 'b>(
+    some: bool,
+    row: &'a mut Row,
+    v: usize,
+    w: usize,
+    u: Cuts,
+    from: &'b Row,
+) -> bool
+    requires { ⌜ ((v ≡ w) → (v < 16)) ⌝ }
+    ensures { λ r. ⌜ maybeBy r (rowIn (now (row .exit))) ≡ joinRowsOf (maybeBy some (rowIn (now (row .entry)))) (cutRowOf (rowIn (now (from .entry))) v w u) ⌝ }
+{
+    if !some {
+        *row = *from;
+        return put_cuts(row, v, w, u);
+    }
+    widen_by(row, from, v, w, u);
+    true
 }

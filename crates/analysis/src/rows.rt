@@ -14,10 +14,11 @@ ghost use mathlib.Core.Bool.{true};
 ghost use Prim.Native.Nat.{_≤_};
 ghost use lib.ListN.{length};
 ghost use lib.Seq.{paste};
-ghost use Rattle.interval.specs.Integer.{eqZ};
+ghost use Rattle.interval.specs.Integer.{minZ, maxZ, eqZ};
+ghost use Rattle.interval.specs.declared.Interval.the-variants.{Between};
 ghost use Rattle.words.specs.Words.{wordOf};
 ghost use Rattle.words.specs.First.{allBelow};
-ghost use Rattle.analysis.specs.Rows.{rowOf, rangeOf, ownOf, putOf, meetAtOf, joinRowsOf, some, maybeBy};
+ghost use Rattle.analysis.specs.Rows.{rowOf, rangeOf, ownOf, putOf, meetAtOf, thenRow, joinRowsOf, some, maybeBy};
 ghost use Rattle.analysis.specs.Arrays.{rowIn, outerOf, leftOf};
 
 // The interval of the variable v.
@@ -120,6 +121,36 @@ fn widen<'a, 'b>(row: &'a mut [i32], more: &'b [i32])
         row[i] = outer(i, row[i], more[i]);
         i += 1;
     }
+}
+
+// The ends of the variable v in a row, widened by a..b.
+fn widened_at(row: &[i32], v: usize, a: i32, b: i32) -> Interval
+    ensures { λ r. ⌜ r ≡ Between (minZ (wordOf (rowIn (now (row .entry)) .lows) v) a) (maxZ (wordOf (rowIn (now (row .entry)) .highs) v) b) ⌝ }
+{
+    let low = min32(word(low_ends(row), v), a);
+    let high = max32(word(high_ends(row), v), b);
+    Interval::Between(low, high)
+}
+
+// Two rows together, in the place of the first, where the second has a..b at v and then c..d at w in place of its own.
+pub(crate) fn widen_cut<'a, 'b>(
+    row: &'a mut [i32],
+    more: &'b [i32],
+    v: usize,
+    a: i32,
+    b: i32,
+    w: usize,
+    c: i32,
+    d: i32,
+)
+    requires { ⌜ (length (now row) ≡ 32) × (length (now more) ≡ 32) ⌝ }
+    ensures { λ r. ⌜ some (rowIn (now (row .exit))) ≡ joinRowsOf (some (rowIn (now (row .entry)))) (thenRow (putOf (rowIn (now (more .entry))) v (Between a b)) (λ s. putOf s w (Between c d))) ⌝ }
+{
+    let x = widened_at(row, v, a, b);
+    let y = widened_at(row, w, c, d);
+    widen(row, more);
+    put(row, v, x);
+    put(row, w, y);
 }
 
 // The row, if x, and the other, if y, together, in the row's place. None adds nothing.

@@ -1,21 +1,21 @@
--- `analysis::evaluate::sides` meets its contract: both rows are copies when the condition narrows them, and where it left none they are cleared.
+-- `analysis::evaluate::sides` meets its contract: the condition narrows a copy and joins to none, and where it left none the rows are cleared.
 -- Assumes nothing.
 use mathlib.Core.Path.{ap, _∙_}
 use borrow.Author.Needs.{needs}
 use Rattle.analysis.specs.Arrays.{leftOf}
-use Rattle.analysis.proofs.WalkLaws.{split-is}
+use Rattle.analysis.proofs.WalkLaws.{sides-of, split-is}
 use Rattle.analysis.proofs.evaluate.sides.Statement.{statement}
 use Rattle.analysis.proofs.evaluate.sides.Tie as tie
 
 returns : tie.Need-returns
 returns c =
-    let yes = c .before .before in
-    let said = yes .before .before .before .before .split in
-    let narrowed = said .ensures .1 in (
-      split-is _ _ (said .result) _ _ (said .ensures .0) (narrowed .0) (narrowed .1 .0),
+    let no = c .before in
+    let yes = no .before .before in
+    let said = sides-of _ _ _ _ (yes .before .before .before .before .split .ensures) in (
+      split-is _ _ _ _ _ (said .0) (said .1 .0) (said .1 .1 .0),
       (
-        yes .clear-unless .ensures ∙ ap leftOf (narrowed .0),
-        (c .clear-unless2 .ensures ∙ ap leftOf (narrowed .1 .0), narrowed .1 .1),
+        yes .clear-unless .ensures ∙ ap leftOf (said .1 .0),
+        (no .clear-unless2 .ensures ∙ ap leftOf (said .1 .1 .0), said .1 .1 .1),
       ),
     )
 

@@ -3,14 +3,17 @@
 -- what the call before left in its place. Eight times the node's number falls at each call, with one to four more for the functions that call others on
 -- their own nodes.
 -- Assumes nothing.
-use mathlib.Core.Path.{refl, sym, _∙_}
+use mathlib.Core.Path.{refl, sym, ap, _∙_}
+use mathlib.Core.Bool.{not}
 use native.Mathlib.Omega.{arith}
 use borrow.Author.Tests.{not-true, not-false}
 use Rattle.interval.proofs.MachineArithmetic.{handed32}
 use Rattle.words.proofs.Signed.{read-back}
 use Rattle.table.specs.Tree.{arithBy}
 use Rattle.table.proofs.TreeLaws.{children-of}
-use Rattle.analysis.proofs.WalkLaws.{branch-taken, branch-left-out, constant-valued, input-valued, variable-valued, negation-valued, binary-valued, choice-valued, chosen, cut-left-out, cut-taken, chosen-by, choice-by, no-value, both-splits, either-splits, cut-leaves, compare-splits, both-node-splits, either-node-splits, not-splits, no-splits, copy-known}
+use Rattle.analysis.proofs.WalkLaws.{branch-taken, branch-left-out, constant-valued, input-valued, variable-valued, negation-valued, binary-valued, choice-valued, chosen, cut-left-out, cut-taken, chosen-by, choice-by, no-value, sides-of, in-turn-splits, turned, turned-copy, turned-joined, cuts-known, cut-leaves, one-slot, compare-splits, both-node-splits, either-node-splits, not-splits, no-splits, copy-known}
+use Rattle.analysis.specs.Rows.{joinRowsOf}
+use Rattle.analysis.proofs.NarrowCodeLaws.{add-alone}
 use Rattle.analysis.specs.Arrays.{rowIn}
 use Rattle.analysis.proofs.RowCodeLaws.{few-lows, few-highs}
 use Prim.Native.Nat.{ℕ, _+_, _*_, _<_, max}
@@ -20,41 +23,48 @@ use borrow.Fn.Kinds.{In}
 use borrow.Fn.PlainCycle.{Measures, is, falls, and}
 use Rattle.analysis.proofs.evaluate.branch.Reads as branch
 use Rattle.analysis.proofs.evaluate.branch.Kinds as branch-kinds
-use Rattle.analysis.proofs.evaluate.+branch+choose+choose_by+choose_split+cut+cut_branch+split+split_both+split_by+split_either+value.Lts-branch as branch-lts
+use Rattle.analysis.proofs.evaluate.+branch+choose+choose_by+choose_split+cut_branch+cuts_on+split+split_apart+split_by+split_in_turn+split_joined+split_turned+value.Lts-branch as branch-lts
 use Rattle.analysis.proofs.evaluate.choose.Reads as choose
 use Rattle.analysis.proofs.evaluate.choose.Kinds as choose-kinds
-use Rattle.analysis.proofs.evaluate.+branch+choose+choose_by+choose_split+cut+cut_branch+split+split_both+split_by+split_either+value.Lts-choose as choose-lts
+use Rattle.analysis.proofs.evaluate.+branch+choose+choose_by+choose_split+cut_branch+cuts_on+split+split_apart+split_by+split_in_turn+split_joined+split_turned+value.Lts-choose as choose-lts
 use Rattle.analysis.proofs.evaluate.choose_by.Reads as choose-by
 use Rattle.analysis.proofs.evaluate.choose_by.Kinds as choose-by-kinds
-use Rattle.analysis.proofs.evaluate.+branch+choose+choose_by+choose_split+cut+cut_branch+split+split_both+split_by+split_either+value.Lts-choose_by as choose-by-lts
+use Rattle.analysis.proofs.evaluate.+branch+choose+choose_by+choose_split+cut_branch+cuts_on+split+split_apart+split_by+split_in_turn+split_joined+split_turned+value.Lts-choose_by as choose-by-lts
 use Rattle.analysis.proofs.evaluate.choose_split.Reads as choose-split
 use Rattle.analysis.proofs.evaluate.choose_split.Kinds as choose-split-kinds
-use Rattle.analysis.proofs.evaluate.+branch+choose+choose_by+choose_split+cut+cut_branch+split+split_both+split_by+split_either+value.Lts-choose_split as choose-split-lts
-use Rattle.analysis.proofs.evaluate.cut.Reads as cut
-use Rattle.analysis.proofs.evaluate.cut.Kinds as cut-kinds
-use Rattle.analysis.proofs.evaluate.+branch+choose+choose_by+choose_split+cut+cut_branch+split+split_both+split_by+split_either+value.Lts-cut as cut-lts
+use Rattle.analysis.proofs.evaluate.+branch+choose+choose_by+choose_split+cut_branch+cuts_on+split+split_apart+split_by+split_in_turn+split_joined+split_turned+value.Lts-choose_split as choose-split-lts
 use Rattle.analysis.proofs.evaluate.cut_branch.Reads as cut-branch
 use Rattle.analysis.proofs.evaluate.cut_branch.Kinds as cut-branch-kinds
-use Rattle.analysis.proofs.evaluate.+branch+choose+choose_by+choose_split+cut+cut_branch+split+split_both+split_by+split_either+value.Lts-cut_branch as cut-branch-lts
+use Rattle.analysis.proofs.evaluate.+branch+choose+choose_by+choose_split+cut_branch+cuts_on+split+split_apart+split_by+split_in_turn+split_joined+split_turned+value.Lts-cut_branch as cut-branch-lts
+use Rattle.analysis.proofs.evaluate.cuts_on.Reads as cuts-on
+use Rattle.analysis.proofs.evaluate.cuts_on.Kinds as cuts-on-kinds
+use Rattle.analysis.proofs.evaluate.+branch+choose+choose_by+choose_split+cut_branch+cuts_on+split+split_apart+split_by+split_in_turn+split_joined+split_turned+value.Lts-cuts_on as cuts-on-lts
 use Rattle.analysis.proofs.evaluate.split.Reads as split
 use Rattle.analysis.proofs.evaluate.split.Kinds as split-kinds
-use Rattle.analysis.proofs.evaluate.+branch+choose+choose_by+choose_split+cut+cut_branch+split+split_both+split_by+split_either+value.Lts-split as split-lts
-use Rattle.analysis.proofs.evaluate.split_both.Reads as split-both
-use Rattle.analysis.proofs.evaluate.split_both.Kinds as split-both-kinds
-use Rattle.analysis.proofs.evaluate.+branch+choose+choose_by+choose_split+cut+cut_branch+split+split_both+split_by+split_either+value.Lts-split_both as split-both-lts
+use Rattle.analysis.proofs.evaluate.+branch+choose+choose_by+choose_split+cut_branch+cuts_on+split+split_apart+split_by+split_in_turn+split_joined+split_turned+value.Lts-split as split-lts
+use Rattle.analysis.proofs.evaluate.split_apart.Reads as split-apart
+use Rattle.analysis.proofs.evaluate.split_apart.Kinds as split-apart-kinds
+use Rattle.analysis.proofs.evaluate.+branch+choose+choose_by+choose_split+cut_branch+cuts_on+split+split_apart+split_by+split_in_turn+split_joined+split_turned+value.Lts-split_apart as split-apart-lts
 use Rattle.analysis.proofs.evaluate.split_by.Reads as split-by
 use Rattle.analysis.proofs.evaluate.split_by.Kinds as split-by-kinds
-use Rattle.analysis.proofs.evaluate.+branch+choose+choose_by+choose_split+cut+cut_branch+split+split_both+split_by+split_either+value.Lts-split_by as split-by-lts
-use Rattle.analysis.proofs.evaluate.split_either.Reads as split-either
-use Rattle.analysis.proofs.evaluate.split_either.Kinds as split-either-kinds
-use Rattle.analysis.proofs.evaluate.+branch+choose+choose_by+choose_split+cut+cut_branch+split+split_both+split_by+split_either+value.Lts-split_either as split-either-lts
+use Rattle.analysis.proofs.evaluate.+branch+choose+choose_by+choose_split+cut_branch+cuts_on+split+split_apart+split_by+split_in_turn+split_joined+split_turned+value.Lts-split_by as split-by-lts
+use Rattle.analysis.proofs.evaluate.split_in_turn.Reads as split-in-turn
+use Rattle.analysis.proofs.evaluate.split_in_turn.Kinds as split-in-turn-kinds
+use Rattle.analysis.proofs.evaluate.+branch+choose+choose_by+choose_split+cut_branch+cuts_on+split+split_apart+split_by+split_in_turn+split_joined+split_turned+value.Lts-split_in_turn as split-in-turn-lts
+use Rattle.analysis.proofs.evaluate.split_joined.Reads as split-joined
+use Rattle.analysis.proofs.evaluate.split_joined.Kinds as split-joined-kinds
+use Rattle.analysis.proofs.evaluate.+branch+choose+choose_by+choose_split+cut_branch+cuts_on+split+split_apart+split_by+split_in_turn+split_joined+split_turned+value.Lts-split_joined as split-joined-lts
+use Rattle.analysis.proofs.evaluate.split_turned.Reads as split-turned
+use Rattle.analysis.proofs.evaluate.split_turned.Kinds as split-turned-kinds
+use Rattle.analysis.proofs.evaluate.+branch+choose+choose_by+choose_split+cut_branch+cuts_on+split+split_apart+split_by+split_in_turn+split_joined+split_turned+value.Lts-split_turned as split-turned-lts
 use Rattle.analysis.proofs.evaluate.value.Reads as value
 use Rattle.analysis.proofs.evaluate.value.Kinds as value-kinds
-use Rattle.analysis.proofs.evaluate.+branch+choose+choose_by+choose_split+cut+cut_branch+split+split_both+split_by+split_either+value.Lts-value as value-lts
+use Rattle.analysis.proofs.evaluate.+branch+choose+choose_by+choose_split+cut_branch+cuts_on+split+split_apart+split_by+split_in_turn+split_joined+split_turned+value.Lts-value as value-lts
 use Rattle.analysis.proofs.alarms.mark_told.Reads as mark-told-reads
+use Rattle.analysis.proofs.evaluate.combine.Reads as combine-reads
 use Rattle.analysis.proofs.evaluate.no_condition.Reads as no-condition-reads
 use Rattle.analysis.proofs.evaluate.opposed.Reads as opposed-reads
-use Rattle.analysis.proofs.narrow.carry_both.Reads as carry-both-reads
+use Rattle.analysis.proofs.narrow.add_cuts.Reads as add-cuts-reads
 use Rattle.analysis.proofs.narrow.put_cuts.Reads as put-cuts-reads
 use Rattle.analysis.proofs.narrow.variable_or.Reads as variable-or-reads
 use Rattle.analysis.proofs.rows.is_copy.Reads as is-copy-reads
@@ -62,17 +72,15 @@ use Rattle.analysis.proofs.rows.join_rows.Reads as join-rows-reads
 use Rattle.analysis.proofs.rows.range_in.Reads as range-in-reads
 use Rattle.interval.proofs.arithmetic.negate.Reads as negate-reads
 use Rattle.interval.proofs.arithmetic.operate.Reads as operate-reads
-use Rattle.interval.proofs.compare.both.Reads as both-reads
 use Rattle.interval.proofs.compare.compare.Reads as compare-reads
-use Rattle.interval.proofs.compare.either.Reads as either-reads
 use Rattle.interval.proofs.integer.max32.Reads as max32-reads
 use Rattle.interval.proofs.lattice.join.Reads as join-reads
 use Rattle.interval.proofs.narrow.cuts.Reads as cuts-reads
 use Rattle.table.proofs.decode.shape_at.Reads as shape-at-reads
-use Rattle.analysis.proofs.evaluate.+branch+choose+choose_by+choose_split+cut+cut_branch+split+split_both+split_by+split_either+value.{
+use Rattle.analysis.proofs.evaluate.+branch+choose+choose_by+choose_split+cut_branch+cuts_on+split+split_apart+split_by+split_in_turn+split_joined+split_turned+value.{
   statement,
 }
-use Rattle.analysis.proofs.evaluate.+branch+choose+choose_by+choose_split+cut+cut_branch+split+split_both+split_by+split_either+value.Tie.{
+use Rattle.analysis.proofs.evaluate.+branch+choose+choose_by+choose_split+cut_branch+cuts_on+split+split_apart+split_by+split_in_turn+split_joined+split_turned+value.Tie.{
   close,
 }
 
@@ -88,23 +96,29 @@ abbrev μ-choose-by : Measures 3 choose-by-kinds.ps ℕ
 abbrev μ-choose-split : Measures 3 choose-split-kinds.ps ℕ
 μ-choose-split κs a = 8 * max (a .1 .0) (max (a .1 .1 .0) (a .1 .1 .1 .0)) + 2
 
-abbrev μ-cut : Measures 2 cut-kinds.ps ℕ
-μ-cut κs a = 8 * max (a .1 .1 .1 .0) (a .1 .1 .1 .1 .0) + 1
-
 abbrev μ-cut-branch : Measures 3 cut-branch-kinds.ps ℕ
 μ-cut-branch κs a = 8 * a .1 .1 .0 + 2
+
+abbrev μ-cuts-on : Measures 2 cuts-on-kinds.ps ℕ
+μ-cuts-on κs a = 8 * max (a .1 .1 .1 .0) (a .1 .1 .1 .1 .0) + 1
 
 abbrev μ-split : Measures 5 split-kinds.ps ℕ
 μ-split κs a = 8 * a .1 .0
 
-abbrev μ-split-both : Measures 5 split-both-kinds.ps ℕ
-μ-split-both κs a = 8 * max (a .1 .0) (a .1 .1 .0) + 2
+abbrev μ-split-apart : Measures 5 split-apart-kinds.ps ℕ
+μ-split-apart κs a = 8 * max (a .1 .0) (a .1 .1 .0) + 3
 
-abbrev μ-split-by : Measures 3 split-by-kinds.ps ℕ
+abbrev μ-split-by : Measures 4 split-by-kinds.ps ℕ
 μ-split-by κs a = 8 * max (a .1 .1 .0) (a .1 .1 .1 .0) + 2
 
-abbrev μ-split-either : Measures 5 split-either-kinds.ps ℕ
-μ-split-either κs a = 8 * max (a .1 .0) (a .1 .1 .0) + 2
+abbrev μ-split-in-turn : Measures 5 split-in-turn-kinds.ps ℕ
+μ-split-in-turn κs a = 8 * max (a .1 .0) (a .1 .1 .0) + 1
+
+abbrev μ-split-joined : Measures 5 split-joined-kinds.ps ℕ
+μ-split-joined κs a = 8 * max (a .1 .0) (a .1 .1 .0) + 4
+
+abbrev μ-split-turned : Measures 5 split-turned-kinds.ps ℕ
+μ-split-turned κs a = 8 * max (a .1 .0) (a .1 .1 .0) + 2
 
 abbrev μ-value : Measures 3 value-kinds.ps ℕ
 μ-value κs a = 8 * a .1 .0
@@ -133,17 +147,17 @@ choose-split-at t = and 3 choose-split-kinds.ps (is 3 choose-split-kinds.ps μ-c
 abbrev choose-split-below : ℕ → In 3 choose-split-kinds.ps
 choose-split-below t = and 3 choose-split-kinds.ps (falls 3 choose-split-kinds.ps _<_ μ-choose-split t) choose-split.Pre
 
-abbrev cut-at : ℕ → In 2 cut-kinds.ps
-cut-at t = and 2 cut-kinds.ps (is 2 cut-kinds.ps μ-cut t) cut.Pre
-
-abbrev cut-below : ℕ → In 2 cut-kinds.ps
-cut-below t = and 2 cut-kinds.ps (falls 2 cut-kinds.ps _<_ μ-cut t) cut.Pre
-
 abbrev cut-branch-at : ℕ → In 3 cut-branch-kinds.ps
 cut-branch-at t = and 3 cut-branch-kinds.ps (is 3 cut-branch-kinds.ps μ-cut-branch t) cut-branch.Pre
 
 abbrev cut-branch-below : ℕ → In 3 cut-branch-kinds.ps
 cut-branch-below t = and 3 cut-branch-kinds.ps (falls 3 cut-branch-kinds.ps _<_ μ-cut-branch t) cut-branch.Pre
+
+abbrev cuts-on-at : ℕ → In 2 cuts-on-kinds.ps
+cuts-on-at t = and 2 cuts-on-kinds.ps (is 2 cuts-on-kinds.ps μ-cuts-on t) cuts-on.Pre
+
+abbrev cuts-on-below : ℕ → In 2 cuts-on-kinds.ps
+cuts-on-below t = and 2 cuts-on-kinds.ps (falls 2 cuts-on-kinds.ps _<_ μ-cuts-on t) cuts-on.Pre
 
 abbrev split-at : ℕ → In 5 split-kinds.ps
 split-at t = and 5 split-kinds.ps (is 5 split-kinds.ps μ-split t) split.Pre
@@ -151,32 +165,35 @@ split-at t = and 5 split-kinds.ps (is 5 split-kinds.ps μ-split t) split.Pre
 abbrev split-below : ℕ → In 5 split-kinds.ps
 split-below t = and 5 split-kinds.ps (falls 5 split-kinds.ps _<_ μ-split t) split.Pre
 
-abbrev split-both-at : ℕ → In 5 split-both-kinds.ps
-split-both-at t =
-    and 5 split-both-kinds.ps (is 5 split-both-kinds.ps μ-split-both t) split-both.Pre
+abbrev split-apart-at : ℕ → In 5 split-apart-kinds.ps
+split-apart-at t = and 5 split-apart-kinds.ps (is 5 split-apart-kinds.ps μ-split-apart t) split-apart.Pre
 
-abbrev split-both-below : ℕ → In 5 split-both-kinds.ps
-split-both-below t =
-    and 5 split-both-kinds.ps (falls 5 split-both-kinds.ps _<_ μ-split-both t) split-both.Pre
+abbrev split-apart-below : ℕ → In 5 split-apart-kinds.ps
+split-apart-below t = and 5 split-apart-kinds.ps (falls 5 split-apart-kinds.ps _<_ μ-split-apart t) split-apart.Pre
 
-abbrev split-by-at : ℕ → In 3 split-by-kinds.ps
-split-by-at t = and 3 split-by-kinds.ps (is 3 split-by-kinds.ps μ-split-by t) split-by.Pre
+abbrev split-by-at : ℕ → In 4 split-by-kinds.ps
+split-by-at t = and 4 split-by-kinds.ps (is 4 split-by-kinds.ps μ-split-by t) split-by.Pre
 
-abbrev split-by-below : ℕ → In 3 split-by-kinds.ps
-split-by-below t =
-    and 3 split-by-kinds.ps (falls 3 split-by-kinds.ps _<_ μ-split-by t) split-by.Pre
+abbrev split-by-below : ℕ → In 4 split-by-kinds.ps
+split-by-below t = and 4 split-by-kinds.ps (falls 4 split-by-kinds.ps _<_ μ-split-by t) split-by.Pre
 
-abbrev split-either-at : ℕ → In 5 split-either-kinds.ps
-split-either-at t =
-    and 5 split-either-kinds.ps (is 5 split-either-kinds.ps μ-split-either t) split-either.Pre
+abbrev split-in-turn-at : ℕ → In 5 split-in-turn-kinds.ps
+split-in-turn-at t = and 5 split-in-turn-kinds.ps (is 5 split-in-turn-kinds.ps μ-split-in-turn t) split-in-turn.Pre
 
-abbrev split-either-below : ℕ → In 5 split-either-kinds.ps
-split-either-below t =
-    and
-    5
-    split-either-kinds.ps
-    (falls 5 split-either-kinds.ps _<_ μ-split-either t)
-    split-either.Pre
+abbrev split-in-turn-below : ℕ → In 5 split-in-turn-kinds.ps
+split-in-turn-below t = and 5 split-in-turn-kinds.ps (falls 5 split-in-turn-kinds.ps _<_ μ-split-in-turn t) split-in-turn.Pre
+
+abbrev split-joined-at : ℕ → In 5 split-joined-kinds.ps
+split-joined-at t = and 5 split-joined-kinds.ps (is 5 split-joined-kinds.ps μ-split-joined t) split-joined.Pre
+
+abbrev split-joined-below : ℕ → In 5 split-joined-kinds.ps
+split-joined-below t = and 5 split-joined-kinds.ps (falls 5 split-joined-kinds.ps _<_ μ-split-joined t) split-joined.Pre
+
+abbrev split-turned-at : ℕ → In 5 split-turned-kinds.ps
+split-turned-at t = and 5 split-turned-kinds.ps (is 5 split-turned-kinds.ps μ-split-turned t) split-turned.Pre
+
+abbrev split-turned-below : ℕ → In 5 split-turned-kinds.ps
+split-turned-below t = and 5 split-turned-kinds.ps (falls 5 split-turned-kinds.ps _<_ μ-split-turned t) split-turned.Pre
 
 abbrev value-at : ℕ → In 3 value-kinds.ps
 value-at t = and 3 value-kinds.ps (is 3 value-kinds.ps μ-value t) value.Pre
@@ -196,42 +213,50 @@ choose-by-calls t = (value-below t, value.Post, compare-reads.Asked, compare-rea
 abbrev choose-split-calls : ℕ → choose-split-lts.Claims
 choose-split-calls t = (split-below t, split.Post, branch-below t, branch.Post, join-reads.Asked, join-reads.Learnt)
 
-abbrev cut-calls : ℕ → cut-lts.Claims
-cut-calls t = (cuts-reads.Asked, cuts-reads.Learnt, carry-both-reads.Asked, carry-both-reads.Learnt, value-below t, value.Post)
-
 abbrev cut-branch-calls : ℕ → cut-branch-lts.Claims
 cut-branch-calls t = (put-cuts-reads.Asked, put-cuts-reads.Learnt, branch-below t, branch.Post)
 
-abbrev split-calls : ℕ → split-lts.Claims
-split-calls t = (shape-at-reads.Asked, shape-at-reads.Learnt, value-below t, value.Post, split-by-below t, split-by.Post, split-both-below t, split-both.Post, split-either-below t, split-either.Post, split-below t, split.Post, opposed-reads.Asked, opposed-reads.Learnt, no-condition-reads.Asked, no-condition-reads.Learnt)
+abbrev cuts-on-calls : ℕ → cuts-on-lts.Claims
+cuts-on-calls t = (cuts-reads.Asked, cuts-reads.Learnt, value-below t, value.Post)
 
-abbrev split-both-calls : ℕ → split-both-lts.Claims
-split-both-calls t = (split-below t, split.Post, is-copy-reads.Asked, is-copy-reads.Learnt, join-rows-reads.Asked, join-rows-reads.Learnt, both-reads.Asked, both-reads.Learnt)
+abbrev split-calls : ℕ → split-lts.Claims
+split-calls t = (shape-at-reads.Asked, shape-at-reads.Learnt, value-below t, value.Post, split-by-below t, split-by.Post, split-in-turn-below t, split-in-turn.Post, split-joined-below t, split-joined.Post, split-below t, split.Post, opposed-reads.Asked, opposed-reads.Learnt, no-condition-reads.Asked, no-condition-reads.Learnt)
+
+abbrev split-apart-calls : ℕ → split-apart-lts.Claims
+split-apart-calls t = (split-turned-below t, split-turned.Post, join-rows-reads.Asked, join-rows-reads.Learnt)
 
 abbrev split-by-calls : ℕ → split-by-lts.Claims
-split-by-calls t = (compare-reads.Asked, compare-reads.Learnt, cut-below t, cut.Post)
+split-by-calls t = (compare-reads.Asked, compare-reads.Learnt, variable-or-reads.Asked, variable-or-reads.Learnt, cuts-on-below t, cuts-on.Post, put-cuts-reads.Asked, put-cuts-reads.Learnt, add-cuts-reads.Asked, add-cuts-reads.Learnt)
 
-abbrev split-either-calls : ℕ → split-either-lts.Claims
-split-either-calls t = (split-below t, split.Post, is-copy-reads.Asked, is-copy-reads.Learnt, join-rows-reads.Asked, join-rows-reads.Learnt, either-reads.Asked, either-reads.Learnt)
+abbrev split-in-turn-calls : ℕ → split-in-turn-lts.Claims
+split-in-turn-calls t = (split-below t, split.Post, is-copy-reads.Asked, is-copy-reads.Learnt, combine-reads.Asked, combine-reads.Learnt)
+
+abbrev split-joined-calls : ℕ → split-joined-lts.Claims
+split-joined-calls t = (split-apart-below t, split-apart.Post, split-turned-below t, split-turned.Post)
+
+abbrev split-turned-calls : ℕ → split-turned-lts.Claims
+split-turned-calls t = (split-in-turn-below t, split-in-turn.Post)
 
 abbrev value-calls : ℕ → value-lts.Claims
 value-calls t = (shape-at-reads.Asked, shape-at-reads.Learnt, max32-reads.Asked, max32-reads.Learnt, range-in-reads.Asked, range-in-reads.Learnt, value-below t, value.Post, negate-reads.Asked, negate-reads.Learnt, mark-told-reads.Asked, mark-told-reads.Learnt, operate-reads.Asked, operate-reads.Learnt, choose-below t, choose.Post)
 
-pub +branch+choose+choose-by+choose-split+cut+cut-branch+split+split-both+split-by+split-either+value-spec :
+pub +branch+choose+choose-by+choose-split+cut-branch+cuts-on+split+split-apart+split-by+split-in-turn+split-joined+split-turned+value-spec :
     {M : Type 1} → statement M
 unfolding arithBy
-+branch+choose+choose-by+choose-split+cut+cut-branch+split+split-both+split-by+split-either+value-spec =
++branch+choose+choose-by+choose-split+cut-branch+cuts-on+split+split-apart+split-by+split-in-turn+split-joined+split-turned+value-spec =
     close
     μ-branch
     μ-choose
     μ-choose-by
     μ-choose-split
-    μ-cut
     μ-cut-branch
+    μ-cuts-on
     μ-split
-    μ-split-both
+    μ-split-apart
     μ-split-by
-    μ-split-either
+    μ-split-in-turn
+    μ-split-joined
+    μ-split-turned
     μ-value
     (λ t. branch-lts.spec (branch-calls t) (branch-at t) branch.Post
     (λ c κs. omega arith)
@@ -289,25 +314,7 @@ unfolding arithBy
     let else = c .before .before .before in
     let then = else .before .before .before .before .before .before .before in
     let said = then .before .before .before .before .before .before .before .before in
-    chosen _ _ _ _ _ _ _ _ _ _ (said .split .ensures) (then .branch .ensures) (else .branch2 .ensures) (c .join .ensures)))
-    (λ t. cut-lts.spec (cut-calls t) (cut-at t) cut.Post
-    (λ c κs. search needs)
-    (λ c κs. search needs)
-    (λ c.
-    let made = c .before .before in
-    let known = made .before .before .pre .1 (made .before .if1 .taken) in
-    cut-leaves _ _ _ _ _ _ (known .0) (known .1) (made .cuts .ensures) (c .carry-both .ensures))
-    (λ c. search needs)
-    (λ c κs. omega arith)
-    (λ c. search needs)
-    (λ c κs. omega arith)
-    (λ c κs. search needs)
-    (λ c κs. search needs)
-    (λ c.
-    let made = c .before .before in
-    let second = made .before .before in
-    let first = second .before .before .before .before in
-    cut-leaves _ _ _ _ _ _ (first .value .ensures .0) (second .value2 .ensures .0) (made .cuts2 .ensures) (c .carry-both2 .ensures)))
+    chosen _ _ _ _ _ _ _ _ _ _ (sides-of _ _ _ _ (said .split .ensures)) (then .branch .ensures) (else .branch2 .ensures) (c .join .ensures)))
     (λ t. cut-branch-lts.spec (cut-branch-calls t) (cut-branch-at t) cut-branch.Post
     (λ c. cut-left-out _ _ _ _ _ _ _ (not-true _ (c .if1 .taken)))
     (λ c κs. search needs)
@@ -317,6 +324,18 @@ unfolding arithBy
     let valued = c .before .before in
     let own = valued .before .before .before in
     cut-taken _ _ _ _ _ _ _ (not-false _ (own .before .before .before .if1 .left)) (own .put-cuts .ensures) (valued .branch .ensures)))
+    (λ t. cuts-on-lts.spec (cuts-on-calls t) (cuts-on-at t) cuts-on.Post
+    (λ c κs. search needs)
+    (λ c. let known = c .before .before .pre .1 (c .before .if1 .taken) in cuts-known _ _ _ _ _ _ (known .0) (known .1) (c .cuts .ensures))
+    (λ c. search needs)
+    (λ c κs. omega arith)
+    (λ c. search needs)
+    (λ c κs. omega arith)
+    (λ c κs. search needs)
+    (λ c.
+    let second = c .before .before in
+    let first = second .before .before .before in
+    cuts-known _ _ _ _ _ _ (first .value .ensures .0) (second .value2 .ensures .0) (c .cuts2 .ensures)))
     (λ t. split-lts.spec (split-calls t) (split-at t) split.Post
     (λ c κs. search needs)
     (λ c. search needs)
@@ -332,11 +351,13 @@ unfolding arithBy
     let y = right .value2 .ensures .0 in
     (omega arith, (copy-known _ _ _ _ _ _ (start .pre .1 .0) x y, copy-known _ _ _ _ _ _ (start .pre .1 .1) x y)))
     (λ c. search needs)
-    (λ c κs. let arm = c .before .before .before .before in let below = children-of _ _ (sym (arm .before .before .shape-at .ensures) ∙ arm .shape2 .given .1) in (omega arith, arm .before .before .before .before .pre .1))
+    (λ c κs. let arm = c .before .before .before .before .before in let below = children-of _ _ (sym (arm .before .before .shape-at .ensures) ∙ arm .shape2 .given .1) in (omega arith, arm .before .before .before .before .pre .1))
+    (λ c κs. let arm = c .before .before .before .before .before in let below = children-of _ _ (sym (arm .before .before .shape-at .ensures) ∙ arm .shape2 .given .1) in (omega arith, arm .before .before .before .before .pre .1))
     (λ c. search needs)
-    (λ c κs. let arm = c .before .before .before .before in let below = children-of _ _ (sym (arm .before .before .shape-at .ensures) ∙ arm .shape3 .given .1) in (omega arith, arm .before .before .before .before .pre .1))
+    (λ c κs. let arm = c .before .before .before .before .before in let below = children-of _ _ (sym (arm .before .before .shape-at .ensures) ∙ arm .shape3 .given .1) in (omega arith, arm .before .before .before .before .pre .1))
+    (λ c κs. let arm = c .before .before .before .before .before in let below = children-of _ _ (sym (arm .before .before .shape-at .ensures) ∙ arm .shape3 .given .1) in (omega arith, arm .before .before .before .before .pre .1))
     (λ c. search needs)
-    (λ c κs. let arm = c .before .before .before .before in let below = children-of _ _ (sym (arm .before .before .shape-at .ensures) ∙ arm .shape4 .given .1) in let start = arm .before .before .before .before in (omega arith, (start .pre .1 .1, start .pre .1 .0)))
+    (λ c κs. let arm = c .before .before .before .before .before in let below = children-of _ _ (sym (arm .before .before .shape-at .ensures) ∙ arm .shape4 .given .1) in (omega arith, arm .before .before .before .before .pre .1))
     (λ c κs. search needs)
     (λ c κs. search needs)
     (λ c. search needs)
@@ -344,62 +365,100 @@ unfolding arithBy
     let right = c .before .before .before .before .before in
     let left = right .before .before .before .before in
     let arm = left .before .before .before in
-    compare-splits _ _ _ _ _ _ (sym (arm .before .before .shape-at .ensures) ∙ arm .shape .given .1) (left .value .ensures) (right .value2 .ensures) (c .split-by .ensures))
+    compare-splits _ _ _ _ _ _ _ _ (sym (arm .before .before .shape-at .ensures) ∙ arm .shape .given .1) (left .value .ensures) (right .value2 .ensures) (c .split-by .ensures))
     (λ c. search needs)
     (λ c.
     let said = c .before .before in
-    let arm = said .before .before .before .before .before in
-    both-node-splits _ _ _ _ _ _ (sym (arm .before .before .shape-at .ensures) ∙ arm .shape2 .given .1) (said .split-both .ensures))
+    let test = said .before .before .before .before in
+    let arm = test .before .before in
+    both-node-splits _ _ _ _ _ _ _ _ (sym (arm .before .before .shape-at .ensures) ∙ arm .shape2 .given .1) (test .if1 .taken) (said .split-in-turn .ensures))
     (λ c. search needs)
     (λ c.
     let said = c .before .before in
-    let arm = said .before .before .before .before .before in
-    either-node-splits _ _ _ _ _ _ (sym (arm .before .before .shape-at .ensures) ∙ arm .shape3 .given .1) (said .split-either .ensures))
+    let test = said .before .before .before .before in
+    let arm = test .before .before in
+    both-node-splits _ _ _ _ _ _ _ _ (sym (arm .before .before .shape-at .ensures) ∙ arm .shape2 .given .1) (ap not (test .if1 .left)) (said .split-joined .ensures))
+    (λ c. search needs)
+    (λ c.
+    let said = c .before .before in
+    let test = said .before .before .before .before in
+    let arm = test .before .before in
+    either-node-splits _ _ _ _ _ _ _ _ (sym (arm .before .before .shape-at .ensures) ∙ arm .shape3 .given .1) (ap not (test .if2 .taken)) (said .split-joined2 .ensures))
+    (λ c. search needs)
+    (λ c.
+    let said = c .before .before in
+    let test = said .before .before .before .before in
+    let arm = test .before .before in
+    either-node-splits _ _ _ _ _ _ _ _ (sym (arm .before .before .shape-at .ensures) ∙ arm .shape3 .given .1) (test .if2 .left) (said .split-in-turn2 .ensures))
     (λ c. search needs)
     (λ c.
     let said = c .before .before .before in
-    let arm = said .before .before .before .before .before in
-    not-splits _ _ _ _ _ _ _ _ _ _ _ _ (sym (arm .before .before .shape-at .ensures) ∙ arm .shape4 .given .1) (said .split .ensures) (c .opposed .ensures))
+    let arm = said .before .before .before .before .before .before in
+    not-splits _ _ _ _ _ _ _ _ _ _ _ _ _ _ (sym (arm .before .before .shape-at .ensures) ∙ arm .shape4 .given .1) (said .split .ensures) (c .opposed .ensures))
     (λ c.
-    let read = c .before .before in
-    no-splits _ _ _ _ _ _ _ _ _ (sym (read .shape-at .ensures)) (c .before .match .keys5) (c .no-condition .ensures)))
-    (λ t. split-both-lts.spec (split-both-calls t) (split-both-at t) split-both.Post
+    let arm = c .before .before in
+    no-splits _ _ _ _ _ _ _ _ _ _ (sym (arm .before .shape-at .ensures)) (arm .match .keys5) (c .no-condition .ensures)))
+    (λ t. split-apart-lts.spec (split-apart-calls t) (split-apart-at t) split-apart.Post
     (λ c κs. (omega arith, c .before .before .before .before .before .pre .1))
     (λ c κs. search needs)
-    (λ c κs.
-    let start = c .before .before .before .before .before .before .before .before .before .before .before .before .before in
-    let falls : 8 * start .args .b < t = omega (arith, start .pre .0) in
-    (falls, (c .before .before .before .is-copy .ensures .1, start .pre .1 .1)))
-    (λ c κs. search needs)
-    (λ c κs. search needs)
     (λ c. search needs)
-    (λ c.
-    let joined = c .before .before .before .before .before in
-    let right = joined .before .before .before .before .before in
-    let kept = right .before .before .before .before in
-    let left = kept .before .before .before .before in
-    both-splits _ _ _ _ _ _ _ _ _ _ _ _ _ _ _ (left .split .ensures) (kept .is-copy .ensures .0) (right .split2 .ensures) (c .before .before .both .ensures) (joined .join-rows .ensures)))
+    (λ c. let joined = c .before in let said = joined .before .before .before .before .before in turned-joined _ _ _ _ _ _ _ (said .split-turned .ensures) (joined .join-rows .ensures)))
     (λ t. split-by-lts.spec (split-by-calls t) (split-by-at t) split-by.Post
     (λ c κs. search needs)
-    (λ c κs. (omega arith, c .before .before .pre .1 .0))
-    (λ c κs. (omega arith, c .before .before .before .before .pre .1 .1))
-    (λ c. (c .before .before .before .before .compare .ensures, (c .before .before .cut .ensures, c .cut2 .ensures))))
-    (λ t. split-either-lts.spec (split-either-calls t) (split-either-at t) split-either.Post
-    (λ c κs. (omega arith, c .before .before .before .before .before .pre .1))
+    (λ c κs. search needs)
+    (λ c κs. search needs)
+    (λ c κs. let start = c .before .before .before .before in (omega arith, start .pre .1 .0))
+    (λ c κs. search needs)
+    (λ c κs. let start = c .before .before .before .before .before .before .before .before in (omega arith, start .pre .1 .1))
+    (λ c κs. let right-at = c .before .before .before .before .before .before .before in one-slot _ _ (right-at .before .variable-or .ensures) (right-at .variable-or2 .ensures))
+    (λ c.
+    let added = c .before .before in
+    let put = added .before .before in
+    let kept = put .before .before in
+    let right-at = kept .before .before in
+    let left-at = right-at .before in
+    let given = left-at .before .before .args in
+    let v = left-at .variable-or .ensures in
+    let w = right-at .variable-or2 .ensures in (
+      left-at .before .compare .ensures,
+      (
+        put .put-cuts .ensures ∙ cut-leaves _ (now (given .narrowed)) _ _ _ _ v w (kept .cuts-on .ensures),
+        c .add-cuts .ensures ∙ ap (joinRowsOf _) (cut-leaves _ (now (given .from)) _ _ _ _ v w (added .cuts-on2 .ensures)),
+      ),
+    )))
+    (λ t. split-in-turn-lts.spec (split-in-turn-calls t) (split-in-turn-at t) split-in-turn.Post
+    (λ c κs. (omega arith, c .before .before .before .before .pre .1))
     (λ c κs. search needs)
     (λ c κs.
-    let start = c .before .before .before .before .before .before .before .before .before .before .before .before .before in
+    let copied = c .before .before .before in
+    let start = copied .before .before .before .before .before .before .before .before .before in
     let falls : 8 * start .args .b < t = omega (arith, start .pre .0) in
-    (falls, (start .pre .1 .0, c .before .before .before .is-copy .ensures .1)))
-    (λ c κs. search needs)
+    (falls, (copied .is-copy .ensures .1, start .pre .1 .1)))
     (λ c κs. search needs)
     (λ c. search needs)
     (λ c.
-    let joined = c .before .before .before .before .before in
-    let right = joined .before .before .before .before .before in
+    let combined = c .before .before in
+    let right = combined .before .before .before .before .before in
     let kept = right .before .before .before .before in
     let left = kept .before .before .before .before in
-    either-splits _ _ _ _ _ _ _ _ _ _ _ _ _ _ _ (left .split .ensures) (kept .is-copy .ensures .0) (right .split2 .ensures) (c .before .before .either .ensures) (joined .join-rows .ensures)))
+    in-turn-splits _ _ _ _ _ _ _ _ _ _ _ _ _ (left .split .ensures) (kept .is-copy .ensures .0) (right .split2 .ensures) (combined .combine .ensures)))
+    (λ t. split-joined-lts.spec (split-joined-calls t) (split-joined-at t) split-joined.Post
+    (λ c κs. (omega arith, c .before .before .before .before .before .pre .1))
+    (λ c. search needs)
+    (λ c. c .before .before .split-apart .ensures)
+    (λ c κs. (omega arith, c .before .before .before .before .before .before .pre .1))
+    (λ c. search needs)
+    (λ c. let said = c .before .before .before in let test = said .before .before .before .before .before in turned-joined _ _ _ _ _ _ _ (said .split-turned .ensures) (add-alone _ _ (test .if1 .left) refl)))
+    (λ t. split-turned-lts.spec (split-turned-calls t) (split-turned-at t) split-turned.Post
+    (λ c κs. (omega arith, (c .before .before .before .before .before .before .pre .1 .1, λ e. refl)))
+    (λ c. search needs)
+    (λ c.
+    let said = c .before .before in
+    let test = said .before .before .before .before in
+    turned-copy _ _ _ _ _ _ (ap rowIn (test .before .before .before .pre .1 .0 (test .if1 .taken))) (said .split-in-turn .ensures))
+    (λ c κs. let start = c .before .before .before .before .before .before .before .before in (omega arith, (start .pre .1 .1, start .pre .1 .0)))
+    (λ c. search needs)
+    (λ c. turned _ _ _ _ _ _ _ (c .before .before .split-in-turn2 .ensures)))
     (λ t. value-lts.spec (value-calls t) (value-at t) value.Post
     (λ c κs. search needs)
     (λ c. search needs)
