@@ -7,6 +7,7 @@ use Rattle.analysis.proofs.RowLaws.{tighter-within}
 use Rattle.analysis.proofs.AlarmLaws.{marked-lists}
 use Rattle.analysis.proofs.NodeLaws.{Outcome, CondOutcome}
 use Rattle.analysis.proofs.AgreeLaws.{value-agrees, alarms-agree, decision-agrees, condAlarms-agree}
+use Rattle.analysis.proofs.BareLaws.{narrow-bare, alarms-bare}
 use Rattle.analysis.proofs.CutLaws.{narrow-cuts}
 use Rattle.analysis.proofs.AnalysisLaws.{arith-outcome, cond-outcome, alarms-kinds, condAlarms-kinds, narrow-tighter}
 
@@ -19,6 +20,8 @@ proved = record {
   narrow-keeps = λ c r vs ws p i b q e. (subst (CondOutcome vs c) e (cond-outcome vs ws c p)) .keeps r i;
   narrow-within = λ c w r. tighter-within (narrowOf c w r) r (narrow-tighter c w r);
   narrow-cuts = narrow-cuts;
+  narrow-bare = narrow-bare;
+  alarms-bare = alarms-bare;
   alarms-kinds = alarms-kinds;
   condAlarms-kinds = condAlarms-kinds;
   marked-lists = marked-lists;

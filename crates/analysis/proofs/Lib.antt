@@ -10,3 +10,4 @@ pub mod WalkLaws
 pub mod NarrowCodeLaws
 pub mod AgreeLaws
 pub mod CutLaws
+pub mod BareLaws

@@ -35,6 +35,7 @@ use Rattle.analysis.specs.Analysis.{valueOf, alarmsOf, decisionOf, condA
 use Rattle.analysis.specs.Cuts.{variableOr, cutRowOf}
 use Rattle.analysis.specs.Arrays.{rowIn, isSome, splitOf, pairOf, combinedOf, CopyIf, KnownIf}
 use Rattle.analysis.proofs.AlarmLaws.{marked-append}
+use Rattle.analysis.proofs.BareLaws.{not-not, not-narrows}
 use Rattle.analysis.proofs.CutLaws.{slots-differ, narrow-cuts}
 use Rattle.analysis.proofs.JoinLaws.{joinRows-assoc}
 use Rattle.analysis.proofs.RowCodeLaws.{few-lows, few-highs}
@@ -235,10 +236,6 @@ in-turn-splits c d w r u v j m f f′ y y′ y″ h k l e =
       ),
     )
 
-not-not : (w : Bool) → not (not w) ≡ w
-not-not true = refl
-not-not false = refl
-
 -- the same of the opposite truth, with nothing joined before: y is what the opposite leaves of the row v, and z what is left of the row u
 abbrev Turned : Cond → Bool → Row → Row → Row → List ℕ → Decision → Maybe → Maybe → List ℕ → Type 0
 Turned c w r u v m d y z m′ = (d ≡ decisionOf c r) × ((y ≡ narrowOf c (not w) v) × ((z ≡ narrowOf c w u) × (m′ ≡ markedOf m (condAlarmsOf c r))))
@@ -288,11 +285,6 @@ unfolding narrowOf
 either-any n c d true r = refl
 either-any n c d false r = refl
 
-not-any : (n : ℕ) (c : Cond) (w : Bool) (r : Row) → narrowOf (isNot n c) w r ≡ narrowOf c (not w) r
-unfolding narrowOf
-not-any n c true r = refl
-not-any n c false r = refl
-
 none-wanted : (n : ℕ) (w : Bool) (r : Row) → narrowOf (noCond n) w r ≡ maybeBy (not w) r
 unfolding narrowOf maybeBy
 none-wanted n true r = refl
@@ -314,7 +306,7 @@ module _ (ns : List ℤ) (w : Bool) (r u v : Row) (l : Maybe) (n : ℕ) (m : Lis
   -- the truth exchanged
   pub not-splits : {x : ℕ} {d b : Decision} (f g f′ g′ : Bool) (y z : Row) {m′ : List ℕ} → shapeOf ns n ≡ Not x → Splits (condAt ns x) (not w) r u v l m d (maybeBy f y) (maybeBy g z) m′ → (b ≡ oppositeOf d) × ((f′ ≡ f) × (g′ ≡ g)) → Splits (condAt ns n) w r u v l m b (maybeBy f′ y) (maybeBy g′ z) m′
   unfolding condBy valueOf
-  not-splits {x} f g f′ g′ y z e h p = rw (cond-of ns n e, not-any n (condAt ns x) w u, not-any n (condAt ns x) (not w) v, ← h .0, p .1 .0, p .1 .1) (p .0, h .1)
+  not-splits {x} f g f′ g′ y z e h p = rw (cond-of ns n e, not-narrows n (condAt ns x) w u, not-narrows n (condAt ns x) (not w) v, ← h .0, p .1 .0, p .1 .1) (p .0, h .1)
 
   -- a node that is no condition
   pub no-splits : (s : Shape) {b : Decision} (f : Bool) {z : Maybe} → shapeOf ns n ≡ s → OneOf others (tagOf the-type s) → (b ≡ decision false true) × ((f ≡ not w) × (z ≡ joinRowsOf l (maybeBy w v))) → Splits (condAt ns n) w r u v l m b (maybeBy f u) z m

@@ -3,7 +3,7 @@
 -- Assumes nothing.
 use Prim.Native.Nat.{ℕ, _<_, _≤_}
 use mathlib.Core.Path.{_≡_}
-use mathlib.Core.Bool.{Bool, true}
+use mathlib.Core.Bool.{Bool, true, not, cond}
 use mathlib.Core.List.{List}
 use mathlib.Core.Logic.{_⊎_}
 use lib.IntN.{ℤ}
@@ -22,6 +22,7 @@ use Rattle.analysis.specs.Rows.{Row, Inside, Kept, MaybeWithin}
 use Rattle.analysis.specs.Alarms.{lists, placeOf, markedOf}
 use Rattle.analysis.specs.Analysis.{valueOf, alarmsOf, decisionOf, condAlarmsOf, narrowOf}
 use Rattle.analysis.specs.Cuts.{variableOr, cutRowOf}
+use Rattle.analysis.specs.Bare.{bareOf, turnedOf}
 use Rattle.analysis.specs.Reads.{reads, condReads, Agree, NoneEmpty, Paired}
 
 abbrev pub IsKind : ℕ → Type 0
@@ -48,6 +49,9 @@ pub record Laws : Type 0 where
       → length (r .lows) ≤ 16
       → length (r .highs) ≤ 16
       → narrowOf (compare n k x y) w r ≡ cutRowOf r (variableOr 16 x) (variableOr 17 y) (cutsOf k w (valueOf x r) (valueOf y r))
+  -- a 'not' leaves of a row what the condition under it leaves by the opposite truth, and has its alarms
+  pub narrow-bare : (c : Cond) (w : Bool) (r : Row) → narrowOf c w r ≡ narrowOf (bareOf c) (cond (turnedOf c) (not w) w) r
+  pub alarms-bare : (c : Cond) (r : Row) → condAlarmsOf c r ≡ condAlarmsOf (bareOf c) r
   -- every alarm is of kind 1 or 2, and the marks of a list of such alarms are that set of pairs
   pub alarms-kinds : (x : Arith) (r : Row) → Kinds (alarmsOf x r)
   pub condAlarms-kinds : (c : Cond) (r : Row) → Kinds (condAlarmsOf c r)

@@ -2,6 +2,7 @@ pub mod Rows
 pub mod Alarms
 pub mod Analysis
 pub mod Cuts
+pub mod Bare
 pub mod Reads
 pub mod Arrays
 pub mod Laws

@@ -1,8 +1,7 @@
 // The interval of arithmetic on a row, and what a condition says of a row, with their alarms marked in the same walk. They call each other, the node
-// number falling. A comparison's sides are evaluated once, on the row that is read, for its decision and for both rows that it cuts; they are evaluated
-// again, without alarms, only for a row that isn't a copy of that. No comparison makes a row. A choice by a comparison makes one for a branch that the
-// decision allows; a choice by any other condition one for each branch, and a 'both' or 'either' one for its right side. A point's row is read where it lies
-// in the proposal (`value_on`).
+// number falling. A comparison's sides are evaluated once, on the row that is read, for its decision and for what it cuts; they are evaluated again, without
+// alarms, only for a row that isn't a copy of that. A row is made for a branch of a choice, and for a pair of conditions that is joined where a place is
+// taken (`split_apart`, `split_turned`). A point's row is read where it lies in the proposal (`value_on`).
 use crate::Asked;
 use crate::Row;
 use crate::Said;

@@ -19,6 +19,12 @@ pub struct Split {
     pub no: bool,
 }
 
+// A node, and whether the 'not' around it turn it.
+pub struct Bare {
+    pub node: usize,
+    pub turned: bool,
+}
+
 // What a condition is asked: the truth by which a row is narrowed in its place; whether that row is a copy of the row that is read, and whether the row
 // from which the opposite starts is one; and whether there is a row that what the opposite leaves is joined to.
 pub(crate) struct Asked {

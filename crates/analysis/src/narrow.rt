@@ -1,4 +1,5 @@
 // What a comparison leaves of a row, in the row's place. Where a function answers false there is none, and the words of the lent row are left open.
+use crate::Bare;
 use crate::Row;
 use crate::rows::meet_at;
 use crate::rows::put;
@@ -11,9 +12,10 @@ use table::decode::shape_at;
 ghost use mathlib.Core.Path.{_≡_};
 ghost use Prim.Native.Nat.{_<_};
 ghost use lib.ListN.{length};
-ghost use Rattle.table.specs.Tree.{arithAt};
+ghost use Rattle.table.specs.Tree.{arithAt, condAt};
 ghost use Rattle.analysis.specs.Rows.{some, maybeBy, joinRowsOf};
 ghost use Rattle.analysis.specs.Arrays.{rowIn};
+ghost use Rattle.analysis.specs.Bare.{bareOf, turnedOf};
 ghost use Rattle.analysis.specs.Cuts.{variableOr, cutRowOf, metIf};
 
 // The variable that the arithmetic node n is, if it has one of the sixteen slots, else the number past.
@@ -24,6 +26,27 @@ pub fn variable_or(nodes: &[i32], n: usize, past: usize) -> usize
     match shape {
         Shape::Variable(v) => if v < 16 { v } else { past },
         _ => past,
+    }
+}
+
+// The condition under the 'not' at the node n, if there are any, and whether they turn it.
+pub fn bare(nodes: &[i32], n: usize) -> Bare
+    ensures { λ r. ⌜ condAt (now (nodes .entry)) (r .node) ≡ bareOf (condAt (now (nodes .entry)) n) ⌝ }
+    ensures { λ r. ⌜ r .turned ≡ turnedOf (condAt (now (nodes .entry)) n) ⌝ }
+{
+    let shape = shape_at(nodes, n);
+    match shape {
+        Shape::Not(a) => {
+            let b = bare(nodes, a);
+            Bare {
+                node: b.node,
+                turned: !b.turned,
+            }
+        }
+        _ => Bare {
+            node: n,
+            turned: false,
+        },
     }
 }
 

@@ -1,9 +1,9 @@
 -- Rules 12, 13 and 14 at a point, by what stands there: from what the code's calls give to what the definitions say. Each public law is about one
 -- `return` of the code, whose answer is y or is made of its tests.
 -- Assumes nothing.
-use Prim.Native.Nat.{ℕ, _+_, _<_}
+use Prim.Native.Nat.{ℕ, _+_, _<_, _≤_}
 use mathlib.Core.Path.{_≡_, refl, sym, ap, _∙_}
-use mathlib.Core.Bool.{Bool, true, false, not, _&&_, and-true, and-assoc}
+use mathlib.Core.Bool.{Bool, true, false, not, cond, _&&_, and-true, and-assoc}
 use mathlib.Core.List.{List, [], _∷_, _++_}
 use native.Mathlib.Omega.{arith}
 use borrow.Author.Tests.{not-true, not-false}
@@ -32,6 +32,8 @@ use Rattle.analysis.specs.Alarms.{markedOf}
 use Rattle.analysis.specs.Analysis.{valueOf, condAlarmsOf, narrowOf}
 use Rattle.analysis.specs.Cuts.{variableOr, metIf, cutRowOf}
 use Rattle.analysis.specs.Arrays.{isSome, leftOf}
+use Rattle.analysis.specs.Bare.{bareOf, turnedOf}
+use Rattle.analysis.proofs.BareLaws.{narrow-bare, alarms-bare}
 use Rattle.analysis.proofs.CutLaws.{narrow-cuts, cut-written, cut-first-none}
 use Rattle.analysis.proofs.RowCodeLaws.{left-again}
 use Rattle.rules.specs.declared.Fits.{Fits}
@@ -55,6 +57,20 @@ all-append : (f : Outcome → Bool) (l m : List Outcome) → allOutcomes f (l ++
 unfolding allOutcomes
 all-append f [] m = refl
 all-append f (o ∷ l) m = rw (all-append f l m) (sym (and-assoc (f o) (allOutcomes f l) (allOutcomes f m)))
+
+and-turned : (a b : Bool) → a && b ≡ b && a
+and-turned true true = refl
+and-turned true false = refl
+and-turned false true = refl
+and-turned false false = refl
+
+all-turned : (f : Outcome → Bool) (l m : List Outcome) → allOutcomes f (l ++ m) ≡ allOutcomes f (m ++ l)
+all-turned f l m = all-append f l m ∙ and-turned (allOutcomes f l) (allOutcomes f m) ∙ sym (all-append f m l)
+
+-- one of two places at most m
+pub at-most : (b : Bool) (y n m : ℕ) {q : ℕ} → q ≡ cond b n y → y ≤ m → n ≤ m → q ≤ m
+at-most true y n m e h k = rw e k
+at-most false y n m e h k = rw e h
 
 module _ (t w : List ℤ) where
   -- ---- row k, as the code reads it, with the number of variables n
@@ -136,6 +152,26 @@ module _ (t w : List ℤ) where
   unfolding locksFit rowsFit
   both-fit c y n s r e f = rw (e, f, all-append, all-append)
 
+  -- a test by a comparison, by the shape z that stands at the node c; m are the marks before, m′ those after
+  pub compared-at : (c y n s : ℕ) (r : Row) (m : List ℕ) (nodes : List ℤ) {z : Shape} {k : Comparison} {a b : ℕ} {m′ : List ℕ} {o : Fits} → z ≡ shapeOf nodes c → z ≡ Compare k a b
+      → (o ≡ testedOf t w (compare 0 k (arithAt nodes a) (arithAt nodes b)) y n s r)
+      × (m′ ≡ markedOf m (condAlarmsOf (compare 0 k (arithAt nodes a) (arithAt nodes b)) (ownOf r)))
+      → (o ≡ testedOf t w (condAt nodes c) y n s r) × (m′ ≡ markedOf m (condAlarmsOf (condAt nodes c) (ownOf r)))
+  unfolding condBy narrowOf condAlarmsOf
+  compared-at c y n s r m nodes g h f = rw (cond-of nodes c (sym g ∙ h)) f
+
+  -- a test by the condition under the 'not' around it: where they turn it, the sides change places
+  bare-tested : (c : Cond) (y n s : ℕ) (r : Row) → testedOf t w (bareOf c) (cond (turnedOf c) n y) (cond (turnedOf c) y n) s r ≡ testedOf t w c y n s r
+  unfolding locksFit rowsFit
+  bare-tested c y n s r = rw (narrow-bare c true (ownOf r), narrow-bare c false (ownOf r)) (by (turnedOf c))
+    where
+      side : Bool → ℕ → List Outcome
+      side v q = outcomeIf (narrowOf (bareOf c) v (ownOf r)) s q
+
+      by : (b : Bool) → sideOf t w (side true (cond b n y) ++ side false (cond b y n)) ≡ sideOf t w (side (cond b false true) y ++ side (cond b true false) n)
+      by true = rw (all-turned _ (side true n) (side false y), all-turned _ (side true n) (side false y)) refl
+      by false = refl
+
   module _ (p s : ℕ) (r : Row) where
     -- a point that writes nothing, by its outcomes
     by-outcomes : (x : Point) (l : List Outcome) {y : Fits} → outcomesBy t w x s r ≡ l → writes t w x p s r ≡ true → y ≡ sideOf t w l
@@ -172,20 +208,20 @@ module _ (t w : List ℤ) where
         (ap (λ (y : Fits). fits (y .locks) (y .flow) (filed t w (taskOf t p) s v (Between lo hi))) (one-side s q _ d y (rw (a, b, low, high) at j)))
 
     -- ---- a test
-    pub test-fits : (c y n : ℕ) {nodes : List ℤ} {o : Fits} → nodes ≡ nodesOf t → o ≡ testedOf t w (condAt nodes c) y n s r → o ≡ fitsBy t w (Test c y n) p s r
+    test-fits : (c y n : ℕ) {nodes : List ℤ} {o : Fits} → nodes ≡ nodesOf t → o ≡ testedOf t w (condAt nodes c) y n s r → o ≡ fitsBy t w (Test c y n) p s r
     unfolding fitsBy outcomesBy writes
     test-fits c y n e f = rw e at f
 
-    -- the same of a comparison, by the shape z that stands at the node c; m are the marks before, m′ those after
-    pub test-compared : (c y n : ℕ) (m : List ℕ) {nodes : List ℤ} {z : Shape} {k : Comparison} {a b : ℕ} {m′ : List ℕ} {o : Fits} → nodes ≡ nodesOf t → z ≡ shapeOf nodes c
-        → z ≡ Compare k a b
-        → (o ≡ testedOf t w (compare 0 k (arithAt nodes a) (arithAt nodes b)) y n s r)
-        × (m′ ≡ markedOf m (condAlarmsOf (compare 0 k (arithAt nodes a) (arithAt nodes b)) (ownOf r)))
+    -- by the node b of the condition under the 'not' around c, which turn it if q
+    pub test-bare : (c y n : ℕ) (m : List ℕ) (b : ℕ) {nodes : List ℤ} {q : Bool} {i j : ℕ} {m′ : List ℕ} {o : Fits} → nodes ≡ nodesOf t
+        → (condAt nodes b ≡ bareOf (condAt nodes c)) × (q ≡ turnedOf (condAt nodes c)) → i ≡ cond q n y → j ≡ cond q y n
+        → (o ≡ testedOf t w (condAt nodes b) i j s r) × (m′ ≡ markedOf m (condAlarmsOf (condAt nodes b) (ownOf r)))
         → (o ≡ fitsBy t w (Test c y n) p s r) × (m′ ≡ markedOf m (alarmsBy t (Test c y n) r))
-    unfolding condBy narrowOf condAlarmsOf alarmsBy
-    test-compared c y n m {nodes} e g h f =
-        let is = cond-of nodes c (sym g ∙ h) in
-        (test-fits c y n e (rw is (f .0)), rw (← e, is) (f .1))
+    unfolding alarmsBy
+    test-bare c y n m b {nodes} e h first second f = (
+      test-fits c y n e (rw (h .0, first, second, h .1) at (f .0) ∙ bare-tested (condAt nodes c) y n s r),
+      rw (← e, alarms-bare (condAt nodes c) (ownOf r), ← h .0) (f .1),
+    )
 
     -- ---- a lock
     pub lock-held : (m q : ℕ) {y : Fits} → hasOf s m ≡ true → y ≡ allFit → y ≡ fitsBy t w (Lock m q) p s r

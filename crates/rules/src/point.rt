@@ -15,6 +15,7 @@ use crate::rows::written_within;
 use analysis::Row;
 use analysis::evaluate::sides;
 use analysis::evaluate::value_on;
+use analysis::narrow::bare;
 use analysis::narrow::met_if;
 use analysis::narrow::variable_or;
 use analysis::rows::high_ends;
@@ -31,7 +32,7 @@ use table::decode::shape_at;
 use table::layout::task_of;
 use words::number_at;
 ghost use mathlib.Core.Path.{_≡_};
-ghost use mathlib.Core.Bool.{true, _&&_};
+ghost use mathlib.Core.Bool.{true, cond, _&&_};
 ghost use Prim.Native.Nat.{_<_, _≤_};
 ghost use Rattle.table.specs.Layout.{sizesOf, pointsOf, nodesOf};
 ghost use Rattle.table.specs.Decode.{pointOf};
@@ -261,7 +262,14 @@ fn split_fits<'a, 'b>(
     both_sides(taken, other)
 }
 
-// A test of the condition c, going on at y or at n.
+// Where a test goes on: at y, or at n if it is turned.
+fn goes_on(turned: bool, y: usize, n: usize) -> usize
+    ensures { λ r. ⌜ r ≡ cond turned n y ⌝ }
+{
+    if turned { n } else { y }
+}
+
+// A test of the condition c, going on at y or at n. The 'not' around it only turn it.
 fn test_fits<'a, 'b>(
     t: &'a [i32],
     w: &'a [i32],
@@ -284,7 +292,10 @@ fn test_fits<'a, 'b>(
     ensures { λ r. ⌜ r ≡ fitsBy (now (t .entry)) (now (w .entry)) (Test c y n) p s (rowOf (now (lows .entry)) (now (highs .entry))) ⌝ }
     ensures { λ r. ⌜ now (marks .exit) ≡ markedOf (now (marks .entry)) (alarmsBy (now (t .entry)) (Test c y n) (rowOf (now (lows .entry)) (now (highs .entry)))) ⌝ }
 {
-    let shape = shape_at(nodes, c);
+    let bare = bare(nodes, c);
+    let yes = goes_on(bare.turned, y, n);
+    let no = goes_on(bare.turned, n, y);
+    let shape = shape_at(nodes, bare.node);
     match shape {
         Shape::Compare(k, a, b) => compared_fits(
             t,
@@ -298,8 +309,8 @@ fn test_fits<'a, 'b>(
             k,
             a,
             b,
-            y,
-            n,
+            yes,
+            no,
             marks,
         ),
         _ => split_fits(
@@ -311,9 +322,9 @@ fn test_fits<'a, 'b>(
             s,
             lows,
             highs,
-            c,
-            y,
-            n,
+            bare.node,
+            yes,
+            no,
             marks,
         ),
     }
