@@ -47,12 +47,6 @@ max-assoc a b c =
     (max-below (max-mono (≤ℤ-refl a) (max-left b c)) (≤-trans (max-right b c) (max-right a _)))
     (max-below (≤-trans (max-left a b) (max-left _ c)) (max-mono (max-right a b) (≤ℤ-refl c)))
 
--- none adds nothing on the right either
-pub joinRows-none : (s : Maybe) → joinRowsOf s none ≡ s
-unfolding joinRowsOf
-joinRows-none none = refl
-joinRows-none (some r) = refl
-
 -- what is joined to what was joined before
 pub joinRows-assoc : (s t u : Maybe) → joinRowsOf (joinRowsOf s t) u ≡ joinRowsOf s (joinRowsOf t u)
 unfolding joinRowsOf
@@ -68,7 +62,7 @@ joinRows-assoc (some r) (some s) (some t) =
 
 -- ---- a row in which intervals were put
 -- a word put in place, then f of both words at each place
-pub each-set : (f : ℤ → ℤ → ℤ) (l m : List ℤ) → length l ≡ length m → (v : ℕ) (x : ℤ) → each f l (set m v x) ≡ set (each f l m) v (f (wordOf l v) x)
+each-set : (f : ℤ → ℤ → ℤ) (l m : List ℤ) → length l ≡ length m → (v : ℕ) (x : ℤ) → each f l (set m v x) ≡ set (each f l m) v (f (wordOf l v) x)
 unfolding each eachRest
 each-set f [] [] e v x = refl
 each-set f [] (y ∷ m) e v x = absurd (omega arith)
@@ -81,11 +75,11 @@ each-sets : (f : ℤ → ℤ → ℤ) (l m : List ℤ) → length l ≡ length m
 each-sets f l m e v w x y = each-set f l (set m v x) (e ∙ sym (length-set m v x)) w y ∙ ap (λ (r : List ℤ). set r w (f (wordOf l w) y)) (each-set f l m e v x)
 
 -- the ends of v in a row, widened by those of a..b
-abbrev pub widenedAt : Row → ℕ → ℤ → ℤ → Interval
+abbrev widenedAt : Row → ℕ → ℤ → ℤ → Interval
 widenedAt r v a b = Between (minZ (wordOf (r .lows) v) a) (maxZ (wordOf (r .highs) v) b)
 
 -- the row s with a..b at v and then c..d at w, joined to r: both rows joined, with the widened ends of r put there
-pub join-written :
+join-written :
     (r s : Row) → length (r .lows) ≡ length (s .lows) → length (r .highs) ≡ length (s .highs)
     → (v w : ℕ) (a b c d : ℤ)
     → joinRowsOf (some r) (thenRow (putOf s v (Between a b)) (λ q. putOf q w (Between c d)))

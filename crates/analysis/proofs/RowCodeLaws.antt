@@ -120,6 +120,13 @@ few-lows ws = few (drop 0 ws)
 pub few-highs : (ws : List ℤ) → length (rowIn ws .highs) ≤ 16
 few-highs ws = few (drop 16 ws)
 
+-- and has just so many, if the array is whole
+pub all-lows : (ws : List ℤ) → length ws ≡ 32 → length (rowIn ws .lows) ≡ 16
+all-lows ws e = part-length ws 0 16 (omega arith)
+
+pub all-highs : (ws : List ℤ) → length ws ≡ 32 → length (rowIn ws .highs) ≡ 16
+all-highs ws e = part-length ws 16 16 (omega arith)
+
 -- both copies, one after the other: the low ends into zeros, which gives e, and the high ends into that
 module _ (lows highs d e f : List ℤ) (z : Zeros d) (room : length d ≡ 32) (p : e ≡ paste d 0 (take 16 lows) (length (take 16 lows))) where
   low-copy : e ≡ take 16 lows ++ drop (length (take 16 lows)) d

@@ -24,7 +24,7 @@ use Rattle.interval.specs.declared.Cuts.{Cuts}
 use Rattle.table.specs.declared.Shape.{Shape}
 use Rattle.table.specs.declared.Shape.the-variants.{Constant, Input, Variable, Negation, Binary, Choice, Compare, Both, Either, Not, Bad}
 use Rattle.table.specs.Decode.{shapeOf}
-use Rattle.table.specs.Tree.{Arith, Cond, choice, noArith, compare, both, either, isNot, noCond, arithBy, condBy, arithAt, condAt}
+use Rattle.table.specs.Tree.{Arith, Cond, choice, noArith, compare, both, either, noCond, arithBy, condBy, arithAt, condAt}
 use Rattle.table.proofs.Shape.{the-type}
 use Rattle.table.proofs.TreeLaws.{arith-of, cond-of}
 use Rattle.analysis.specs.declared.Alarm.{Alarm}

@@ -1,15 +1,10 @@
 -- `analysis::narrow::widen_by` meets its contract: a cut that is none adds nothing, and else both intervals are put into the row that is joined.
 -- Assumes nothing.
-use Prim.Native.Nat.{ℕ, _+_, _≤_}
-use mathlib.Core.Path.{_≡_, sym, _∙_}
-use mathlib.Core.List.{List}
-use native.Mathlib.Omega.{arith}
+use mathlib.Core.Path.{sym, _∙_}
 use borrow.Author.Needs.{needs}
 use denote.Ref.{now}
-use lib.IntN.{ℤ}
-use lib.ListN.{length}
-use Rattle.words.proofs.PartLaws.{part-length}
 use Rattle.words.proofs.Signed.{read-back}
+use Rattle.analysis.proofs.RowCodeLaws.{all-lows, all-highs}
 use Rattle.analysis.proofs.NarrowCodeLaws.{join-first-none, join-last-none, join-cuts}
 use Rattle.analysis.proofs.narrow.widen_by.Statement.{statement}
 use Rattle.analysis.proofs.narrow.widen_by.Tie as tie
@@ -23,7 +18,7 @@ last-none c =
     let met = left .before .before in
     let start = met .before in
     let from = now (start .args .from) in
-    join-last-none _ _ _ _ _ (part-length from 0 16 (omega (arith, start .pre .0 .1))) (part-length from 16 16 (omega (arith, start .pre .0 .1))) (start .pre .1) (left .left .given .1)
+    join-last-none _ _ _ _ _ (all-lows from (start .pre .0 .1)) (all-highs from (start .pre .0 .1)) (start .pre .1) (left .left .given .1)
     (sym (met .met-if .ensures) ∙ c .enum-told2 .given .1)
 
 both-left : tie.Need-returns-3
@@ -40,7 +35,7 @@ both-left c =
     let high = read-back {z = matched .left .given .0 .1 .0} (told .known-told .given .1 .0 .1) in
     let low₂ = read-back {z = matched₂ .last .given .0 .0} (told₂ .known-told2 .given .0 .1) in
     let high₂ = read-back {z = matched₂ .last .given .0 .1 .0} (told₂ .known-told2 .given .1 .0 .1) in
-    join-cuts _ _ _ _ _ (part-length from 0 16 (omega (arith, start .pre .0 .1))) (part-length from 16 16 (omega (arith, start .pre .0 .1))) (start .pre .1) (matched .left .given .1)
+    join-cuts _ _ _ _ _ (all-lows from (start .pre .0 .1)) (all-highs from (start .pre .0 .1)) (start .pre .1) (matched .left .given .1)
     (sym (met .met-if .ensures) ∙ matched₂ .last .given .1)
     (rw (low, high, low₂, high₂) at (widened .widen-cut .ensures))
 
