@@ -9,6 +9,7 @@ mod choices;
 mod claim;
 mod draw;
 mod lines;
+mod pairs;
 mod program;
 mod remainders;
 mod rooms;
@@ -37,6 +38,7 @@ const FAMILIES: &[(&str, Family)] = &[
     ("remainders", remainders::run),
     ("choices", choices::run),
     ("tested", tested::run),
+    ("pairs", pairs::run),
     ("agreement", agreement::run),
     ("tower", tower::run),
 ];

@@ -1,4 +1,4 @@
-//! A drawn tree of two variables that is assigned to a third, as whole checks
+//! A drawn tree of some variables that is assigned to another, as whole checks
 //! and runs. The target's row is what the peer's analysis writes: that is
 //! accepted, and without either end it is refused; and whatever a run comes to
 //! was foreseen.
@@ -10,45 +10,63 @@ use crate::build::*;
 use peer::analysis::{arithmetic, Ends as Lent, Raised, Row};
 use peer::generate::Random;
 use peer::interval::Interval;
-use peer::table::{Node, Table};
+use peer::table::{Node, Table, VARIABLES};
 use peer::words::ALARM_WORDS;
 use peer::State;
 use rangecheck::STATE_WORDS;
 
-/// One task assigns a tree of V and U to a third variable, and ends.
+/// One task assigns a tree of some variables to the next one, or to the last of
+/// them where a table has no more, and ends.
 pub struct Assigned {
     pub tree: Tree,
-    /// Of V and U, and a value in each.
-    pub spans: [Ends; 2],
-    pub values: [i32; 2],
+    /// Of the variables, and a value in each.
+    pub spans: Vec<Ends>,
+    pub values: Vec<i32>,
 }
 
 /// What the check says of an assignment.
 pub struct Foreseen {
-    written: Option<Interval>,
-    alarms: Vec<[i32; 2]>,
+    pub written: Option<Interval>,
+    pub alarms: Vec<[i32; 2]>,
 }
 
 impl Assigned {
-    fn table(&self, [v, u]: [i32; 2]) -> Vec<i32> {
-        table(&[2], &[v, u, 0], 0, &[assign(2, self.tree.clone(), 1), end()])
+    /// The variable that is assigned to.
+    fn to(&self) -> usize {
+        self.spans.len().min(VARIABLES - 1)
     }
 
-    /// A proposal with that row of the third variable after the assignment, and
-    /// that entry.
+    fn table(&self, values: &[i32]) -> Vec<i32> {
+        let mut starts = values.to_vec();
+        starts.resize(self.to() + 1, 0);
+        let points = [assign(self.to() as i32, self.tree.clone(), 1), end()];
+        table(&[2], &starts, 0, &points)
+    }
+
+    /// Before the assignment.
+    fn row(&self) -> Vec<Ends> {
+        let mut row = self.spans.clone();
+        row.resize(self.to() + 1, (0, 0));
+        row
+    }
+
+    /// A proposal with those ends of the variable after the assignment, and that
+    /// entry.
     fn proposal(&self, written: Option<Ends>, target: Ends) -> Vec<i32> {
-        let [v, u] = self.spans;
-        let all = [vec![v, u, (0, 0)], vec![v, u, target]];
+        let mut after = self.row();
+        after[self.to()] = target;
+        let variables = after.len() as i32;
         let held = [0, if written.is_some() { 0 } else { -1 }];
-        let entries: Vec<Entry> = written.map(|ends| ([0, 0, 2], ends)).into_iter().collect();
-        proposal(3, &held, &[], &all, &entries)
+        let entry = |ends| ([0, 0, self.to() as i32], ends);
+        let entries: Vec<Entry> = written.map(entry).into_iter().collect();
+        proposal(variables, &held, &[], &[self.row(), after], &entries)
     }
 
     /// The tree's nodes, of which the last is its own, and the row.
     pub fn parts(&self) -> (Vec<Node>, Row) {
-        let nodes = Table::decode(&self.table(self.values)).expect("a valid table").nodes;
-        let [(v_low, v_high), (u_low, u_high)] = self.spans;
-        (nodes, Lent { lows: &[v_low, u_low, 0], highs: &[v_high, u_high, 0] }.row())
+        let nodes = Table::decode(&self.table(&self.values)).expect("a valid table").nodes;
+        let (lows, highs): (Vec<i32>, Vec<i32>) = self.row().into_iter().unzip();
+        (nodes, Lent { lows: &lows, highs: &highs }.row())
     }
 
     /// By the peer's analysis.
@@ -64,7 +82,7 @@ impl Assigned {
     pub fn check(&self, tally: &mut Tally, foreseen: &Foreseen) {
         let ends = foreseen.written.map(|interval| (interval.low(), interval.high()));
         let check = |entry, target, wanted| {
-            Check::wanting(self.table(self.values), self.proposal(entry, target), wanted)
+            Check::wanting(self.table(&self.values), self.proposal(entry, target), wanted)
         };
         let exact = check(ends, ends.unwrap_or((0, 0)), Ok(foreseen.alarms.clone()));
         let less = ends.into_iter().flat_map(|written| {
@@ -79,11 +97,11 @@ impl Assigned {
     }
 
     /// Plays the assignment on values in the spans, and gives the last state.
-    pub fn run(&self, tally: &mut Tally, values: [i32; 2], foreseen: &Foreseen) -> State {
+    pub fn run(&self, tally: &mut Tally, values: &[i32], foreseen: &Foreseen) -> State {
         let run = Run::by_peer(self.table(values), vec![0]);
         let state = run.wanted.expect("a valid table");
         let mut found = run.differences(STATE_WORDS);
-        if !foreseen.holds(&state) {
+        if !foreseen.holds(&state, self.to()) {
             found.push(format!("not foreseen: {state:?}"));
         }
         tally.case(found, || run.shown());
@@ -91,15 +109,16 @@ impl Assigned {
     }
 
     /// One end of each span.
-    pub fn ends(&self, random: &mut Random) -> [i32; 2] {
-        self.spans.map(|(low, high)| random.pick(&[low, high]))
+    pub fn ends(&self, random: &mut Random) -> Vec<i32> {
+        self.spans.iter().map(|&(low, high)| random.pick(&[low, high])).collect()
     }
 }
 
 impl Foreseen {
-    fn holds(&self, state: &State) -> bool {
+    /// Of a run that assigns to that variable.
+    fn holds(&self, state: &State, to: usize) -> bool {
         match state.stop_kinds[0] {
-            0 => self.written.is_some_and(|interval| interval.holds(state.values[2])),
+            0 => self.written.is_some_and(|interval| interval.holds(state.values[to])),
             kind => self.alarms.contains(&[state.stop_nodes[0], kind as i32]),
         }
     }

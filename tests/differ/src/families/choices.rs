@@ -22,8 +22,8 @@ pub fn run(_bin: &Path, tally: &mut Tally) {
         reached.into_iter().for_each(|name| tally.count(name));
         let foreseen = case.foreseen();
         case.check(tally, &foreseen);
-        for values in [case.values, case.ends(&mut random)] {
-            let state = case.run(tally, values, &foreseen);
+        for values in [case.values.clone(), case.ends(&mut random)] {
+            let state = case.run(tally, &values, &foreseen);
             tally.count(if state.stop_kinds[0] == 0 { "run: to its end" } else { "run: stopped" });
         }
     }
@@ -33,8 +33,8 @@ pub fn run(_bin: &Path, tally: &mut Tally) {
 }
 
 fn draw(random: &mut Random) -> Assigned {
-    let values = [drawn::word(random), drawn::word(random)];
-    let spans = values.map(|value| drawn::around(random, value));
+    let values = vec![drawn::word(random), drawn::word(random)];
+    let spans = values.iter().map(|&value| drawn::around(random, value)).collect();
     let tree = drawn::choice_of(random, &[0, 1], 2);
     Assigned { tree, spans, values }
 }

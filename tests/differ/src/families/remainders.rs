@@ -47,10 +47,10 @@ pub fn run(_bin: &Path, tally: &mut Tally) {
         count_branches(tally, &nodes, &row);
         let foreseen = case.foreseen();
         case.check(tally, &foreseen);
-        for values in [case.values, case.ends(&mut random)] {
-            let state = case.run(tally, values, &foreseen);
+        for values in [case.values.clone(), case.ends(&mut random)] {
+            let state = case.run(tally, &values, &foreseen);
             if plain {
-                tally.count(branch_of_run(values, state.values[2]));
+                tally.count(branch_of_run([values[0], values[1]], state.values[2]));
             }
         }
     }
@@ -76,7 +76,7 @@ fn draw(random: &mut Random) -> (Assigned, bool) {
     let spans = values.map(|value| around(random, value));
     let plain = random.chance(60);
     let tree = if plain { remainder(v(), u()) } else { nested(random) };
-    (Assigned { tree, spans, values }, plain)
+    (Assigned { tree, spans: spans.to_vec(), values: values.to_vec() }, plain)
 }
 
 fn word(random: &mut Random) -> i32 {

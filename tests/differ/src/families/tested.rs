@@ -1,10 +1,10 @@
 //! Tests of one comparison, for which the check makes no rows: it compares the
 //! targets' rows with the point's, in which at most two intervals are cut. And
-//! tests of more than that, for which rows are made, so that both ways are held
+//! tests of more than that, for most of which rows are made, so that both ways are held
 //! to the same answers.
 
-mod by_hand;
-mod drawn;
+pub mod by_hand;
+pub mod drawn;
 
 use super::checks::{sort, Check};
 use super::choices::LEAST;
@@ -70,7 +70,7 @@ impl Tested {
     }
 
     /// By the peer's analysis.
-    fn left(&self) -> Left {
+    pub fn left(&self) -> Left {
         let nodes = Table::decode(&self.table()).expect("a valid table").nodes;
         let node = nodes.len() as u16 - 1;
         let (lows, highs): (Vec<i32>, Vec<i32>) = self.row.iter().copied().unzip();
@@ -152,7 +152,8 @@ fn compare(tally: &mut Tally, random: &mut Random) {
     checks(tally, random, &more, &more.left(), WITHIN);
 }
 
-fn checks(tally: &mut Tally, random: &mut Random, tested: &Tested, left: &Left, whose: &str) {
+/// Whole checks of a test, by the answer that is wanted.
+pub fn checks(tally: &mut Tally, random: &mut Random, tested: &Tested, left: &Left, whose: &str) {
     for check in drawn::checks(random, tested, left) {
         let said = sort(&Answer::check_by_hand(&check.wanted, ALARM_WORDS));
         tally.count(format!("checks {whose}"));

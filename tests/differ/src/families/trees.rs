@@ -33,7 +33,7 @@ pub struct Case {
 }
 
 /// What is said of a case whose row has ends in the wrong order.
-const WITH_NONE: &str = " with a variable that is none";
+pub const WITH_NONE: &str = " with a variable that is none";
 
 pub fn run(bin: &Path, tally: &mut Tally) {
     let mut cases = by_hand::cases();
@@ -114,7 +114,7 @@ impl Case {
         [&head[..], &sizes, self.nodes.as_flattened(), &self.lows(), &self.highs()].concat()
     }
 
-    fn sort(&self) -> String {
+    pub fn sort(&self) -> String {
         let inverted = self.row.iter().any(|(low, high)| low > high);
         let mode = match self.mode {
             Mode::Value => "value",

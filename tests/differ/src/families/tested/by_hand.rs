@@ -93,7 +93,7 @@ impl List {
     }
 }
 
-fn every_check(tested: &Tested, left: &Left) -> Vec<Check> {
+pub fn every_check(tested: &Tested, left: &Left) -> Vec<Check> {
     let exact = left.rows.each_ref().map(|row| match row {
         Some(row) => (tested.held, row.clone()),
         None => (-1, tested.row.clone()),

@@ -12,7 +12,8 @@ use std::iter::once;
 /// How many variables a row has: few, or as many as there can be.
 const COUNTS: [usize; 6] = [1, 2, 2, 3, 5, 16];
 
-const COMPARISONS: [i32; 4] = [16, 17, 18, 19];
+pub const COMPARISONS: [i32; 4] = [16, 17, 18, 19];
+const NOT: i32 = 22;
 const KINDS: [&str; 4] = ["less", "at most", "equal", "not equal"];
 
 /// By which sides of the comparison are variables.
@@ -34,8 +35,10 @@ const ONE_CUT: [&str; 2] = ["yes: one variable cut", "no: one variable cut"];
 const TWO_CUT: &str = "two variables cut";
 const NO_MEET: &str = "one variable on both sides, of which nothing is left";
 
-/// By what the condition is that it is in.
-const TOPS: [&str; 3] = ["in both", "in either", "in not"];
+/// By what the condition is that it is in: a pair, or an odd or even number of
+/// 'not', at most so many.
+const TOPS: [&str; 4] = ["in both", "in either", "in not", "in not, an even number"];
+const MOST_NOTS: usize = 4;
 
 /// All of them, and how often each has to be reached.
 pub fn names() -> Vec<(&'static str, usize)> {
@@ -84,7 +87,11 @@ fn sorts_of_side(tested: &Tested, left: &Left, shape: &str, side: usize) -> Vec<
 pub fn top(tested: &Tested) -> &'static str {
     let mut nodes = Vec::new();
     flatten(&tested.condition, &mut nodes);
-    TOPS[nodes[nodes.len() - 1][0] as usize - 20]
+    let nots = nodes.iter().rev().take_while(|node| node[0] == NOT).count();
+    match nodes[nodes.len() - 1][0] {
+        NOT if nots % 2 == 0 => TOPS[3],
+        kind => TOPS[kind as usize - 20],
+    }
 }
 
 /// A comparison on a row, at a first point or a later one.
@@ -99,7 +106,7 @@ pub fn comparison(random: &mut Random) -> Tested {
 
 /// Of intervals with few values, and some with one to three, of which a variable
 /// on both sides can have nothing left.
-fn row(random: &mut Random, count: usize) -> Row {
+pub fn row(random: &mut Random, count: usize) -> Row {
     let ends = |_| {
         let value = word(random);
         match random.below(4) {
@@ -117,7 +124,11 @@ pub fn alike(random: &mut Random, tested: &Tested, left: &Left) -> (Tested, Left
     let always = equal(num(0), num(0));
     let never = less(num(0), num(0));
     let (condition, same) = match random.below(5) {
-        0 => (not(comparison()), left.exchanged()),
+        0 => {
+            let nots = random.between(1, MOST_NOTS);
+            let same = if nots % 2 == 0 { left.clone() } else { left.exchanged() };
+            ((0..nots).fold(comparison(), |tree, _| not(tree)), same)
+        }
         1 => (both(comparison(), always), left.clone()),
         2 => (both(always, comparison()), left.after(3)),
         3 => (either(comparison(), never), left.clone()),
@@ -192,8 +203,9 @@ fn one_to_change(random: &mut Random, left: &[Ends], whole: &[Ends]) -> usize {
     random.pick(&among)
 }
 
-struct Drawing<'a> {
-    random: &'a mut Random,
+/// Comparisons of a row with so many variables, and their sides.
+pub struct Drawing<'a> {
+    pub random: &'a mut Random,
     count: usize,
     /// The variable that is mostly read.
     tested: i32,
@@ -201,13 +213,13 @@ struct Drawing<'a> {
 
 impl<'a> Drawing<'a> {
     /// The tested variable is often the first or the last.
-    fn new(random: &'a mut Random, count: usize) -> Drawing<'a> {
+    pub fn new(random: &'a mut Random, count: usize) -> Drawing<'a> {
         let any = random.below(count);
         let tested = random.pick(&[0, any, any, count - 1]) as i32;
         Drawing { random, count, tested }
     }
 
-    fn comparison(&mut self) -> Tree {
+    pub fn comparison(&mut self) -> Tree {
         let kind = self.random.pick(&COMPARISONS);
         binary(kind, self.side(), self.side())
     }
@@ -222,7 +234,7 @@ impl<'a> Drawing<'a> {
         }
     }
 
-    fn variable(&mut self) -> Tree {
+    pub fn variable(&mut self) -> Tree {
         let other = self.random.below(self.count) as i32;
         var(if self.random.chance(60) { self.tested } else { other })
     }
@@ -241,7 +253,7 @@ impl<'a> Drawing<'a> {
         }
     }
 
-    fn operation(&mut self) -> Tree {
+    pub fn operation(&mut self) -> Tree {
         match self.random.below(6) {
             0 => negation(self.leaf()),
             1 => sum(self.leaf(), self.leaf()),
