@@ -1,4 +1,5 @@
-// What a comparison leaves of a row, in the row's place. Where a function answers false there is none, and the words of the lent row are left open.
+// What a comparison leaves of a row, in the row's place, and the condition under the 'not' around it. Where a function answers false there is no row, and the
+// words of the lent one are left open.
 use crate::Bare;
 use crate::Row;
 use crate::rows::meet_at;

@@ -292,10 +292,10 @@ fn test_fits<'a, 'b>(
     ensures { λ r. ⌜ r ≡ fitsBy (now (t .entry)) (now (w .entry)) (Test c y n) p s (rowOf (now (lows .entry)) (now (highs .entry))) ⌝ }
     ensures { λ r. ⌜ now (marks .exit) ≡ markedOf (now (marks .entry)) (alarmsBy (now (t .entry)) (Test c y n) (rowOf (now (lows .entry)) (now (highs .entry)))) ⌝ }
 {
-    let bare = bare(nodes, c);
-    let yes = goes_on(bare.turned, y, n);
-    let no = goes_on(bare.turned, n, y);
-    let shape = shape_at(nodes, bare.node);
+    let under = bare(nodes, c);
+    let yes = goes_on(under.turned, y, n);
+    let no = goes_on(under.turned, n, y);
+    let shape = shape_at(nodes, under.node);
     match shape {
         Shape::Compare(k, a, b) => compared_fits(
             t,
@@ -322,7 +322,7 @@ fn test_fits<'a, 'b>(
             s,
             lows,
             highs,
-            bare.node,
+            under.node,
             yes,
             no,
             marks,
