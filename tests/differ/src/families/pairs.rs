@@ -75,6 +75,7 @@ fn asked(random: &mut Random, tested: &Tested) -> Vec<Case> {
     rows.iter().flat_map(of).collect()
 }
 
+/// As the program and a choice take it. A test starts under the 'not' around it.
 fn count_paths(tally: &mut Tally, tested: &Tested) {
     let mut nodes = Vec::new();
     let node = flatten(&tested.condition, &mut nodes) as u16;
