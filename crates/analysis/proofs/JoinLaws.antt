@@ -88,7 +88,7 @@ unfolding joinRowsOf thenRow putOf
 join-written r s e h v w a b c d = rw (each-sets minZ (r .lows) (s .lows) e v w a c, each-sets maxZ (r .highs) (s .highs) h v w b d) refl
 
 -- a row that is there
-there : (f : Bool) (p q : Row) → maybeBy f p ≡ some q → p ≡ q
+pub there : (f : Bool) (p q : Row) → maybeBy f p ≡ some q → p ≡ q
 unfolding maybeBy isSome leftOf
 there true p q e = ap leftOf e
 there false p q e = clash (sym (ap isSome e))

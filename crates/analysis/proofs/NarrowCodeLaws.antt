@@ -11,6 +11,7 @@ use borrow.Author.Tests.{lt-ltb, le-ltb, eq-eqb, ne-eqb}
 use lib.Dec.{eqb}
 use lib.IntN.{ℤ}
 use lib.ListN.{length}
+use Rattle.interval.specs.declared.Interval.{Interval}
 use Rattle.interval.specs.declared.Interval.the-variants.{None, Between}
 use Rattle.interval.specs.declared.Cuts.{Cuts}
 use Rattle.table.specs.declared.Shape.{Shape}
@@ -19,9 +20,12 @@ use Rattle.table.specs.Decode.{shapeOf}
 use Rattle.table.specs.Tree.{Arith, Cond, arithBy, arithAt, condAt}
 use Rattle.table.proofs.Shape.{the-type}
 use Rattle.table.proofs.TreeLaws.{arith-of}
-use Rattle.analysis.specs.Rows.{Row, Maybe, some, maybeBy, thenRow, putOf, meetAtOf, joinRowsOf}
+use Rattle.analysis.specs.Rows.{Row, Maybe, none, some, maybeBy, thenRow, putOf, meetAtOf, joinRowsOf}
+use Rattle.analysis.specs.Arrays.{rowIn}
 use Rattle.analysis.specs.Cuts.{variableOr, cutRowOf, metIf}
 use Rattle.analysis.proofs.CutLaws.{cut-written, cut-first-none}
+use Rattle.analysis.proofs.RowCodeLaws.{join-none, all-lows, all-highs}
+use Rattle.analysis.proofs.JoinLaws.{there}
 
 -- ---- the variable that a node is
 -- the tags of the shapes that are no variable, and that these name none
@@ -68,21 +72,26 @@ module _ (r s : Row) (v w : ℕ) (u : Cuts) (t : Bool) (first : maybeBy t s ≡ 
   unfolding maybeBy thenRow cutRowOf
   cut-other h e k = rw (← first, h, ne-eqb v w e) k
 
--- ---- the cuts of a row of sixteen slots, joined to the row r
-module _ (r s : Row) (v w : ℕ) (u : Cuts) where
-  pub join-first-none : u .left ≡ None → some r ≡ joinRowsOf (some r) (cutRowOf s v w u)
-  unfolding joinRowsOf
-  join-first-none e = rw (cut-first-none s v w u e) refl
+-- ---- the cuts of the row in an array, joined to the row m, if there is one
+module _ (m : Maybe) (ws : List ℤ) (v w : ℕ) (u : Cuts) where
+  pub join-first-none : u .left ≡ None → m ≡ joinRowsOf m (cutRowOf (rowIn ws) v w u)
+  join-first-none e = rw (cut-first-none (rowIn ws) v w u e) (join-none m)
 
-  pub join-last-none : {a b : ℤ} → length (s .lows) ≡ 16 → length (s .highs) ≡ 16 → (v ≡ w → v < 16) → u .left ≡ Between a b → metIf (eqb v w) (u .left) (u .right) ≡ None → some r ≡ joinRowsOf (some r) (cutRowOf s v w u)
-  unfolding joinRowsOf putOf
-  join-last-none {a} {b} low high h e f = rw (cut-written s low high v w u a b h e, f) refl
+  module _ {a b : ℤ} (h : length ws ≡ 32) (slots : v ≡ w → v < 16) (e : u .left ≡ Between a b) where
+    cuts-written : cutRowOf (rowIn ws) v w u ≡ thenRow (putOf (rowIn ws) v (Between a b)) (λ q. putOf q w (metIf (eqb v w) (u .left) (u .right)))
+    unfolding thenRow putOf
+    cuts-written = cut-written (rowIn ws) (all-lows ws h) (all-highs ws h) v w u a b slots e
 
-  pub join-cuts : {a b c d : ℤ} {o : Maybe} → length (s .lows) ≡ 16 → length (s .highs) ≡ 16 → (v ≡ w → v < 16) → u .left ≡ Between a b → metIf (eqb v w) (u .left) (u .right) ≡ Between c d → o ≡ joinRowsOf (some r) (thenRow (putOf s v (Between a b)) (λ q. putOf q w (Between c d))) → o ≡ joinRowsOf (some r) (cutRowOf s v w u)
-  unfolding thenRow putOf
-  join-cuts {a} {b} low high h e f k = rw (cut-written s low high v w u a b h e, f) k
+    pub join-last-none : metIf (eqb v w) (u .left) (u .right) ≡ None → m ≡ joinRowsOf m (cutRowOf (rowIn ws) v w u)
+    unfolding putOf thenRow
+    join-last-none f = rw (cuts-written, f) (join-none m)
 
--- the same where there may be no row yet
+    pub join-cuts :
+        {c d : ℤ} {o : Maybe} → metIf (eqb v w) (u .left) (u .right) ≡ Between c d
+        → o ≡ joinRowsOf m (thenRow (putOf (rowIn ws) v (Between a b)) (λ q. putOf q w (Between c d))) → o ≡ joinRowsOf m (cutRowOf (rowIn ws) v w u)
+    join-cuts f k = rw (cuts-written, f) k
+
+-- by whether there is a row
 module _ (r : Row) (s : Maybe) {t : Bool} {o : Maybe} where
   pub add-alone : t ≡ false → o ≡ s → o ≡ joinRowsOf (maybeBy t r) s
   unfolding maybeBy joinRowsOf
@@ -91,3 +100,10 @@ module _ (r : Row) (s : Maybe) {t : Bool} {o : Maybe} where
   pub add-to : t ≡ true → o ≡ joinRowsOf (some r) s → o ≡ joinRowsOf (maybeBy t r) s
   unfolding maybeBy
   add-to e h = rw e h
+
+-- two intervals put in place, one after the other, in a copy o of the row s: the first put gave the row p, and the second the row q
+pub put-both :
+    (s p q : Row) (v w : ℕ) (a b c d : ℤ) (f g : Bool) {o : Row}
+    → o ≡ s → maybeBy f p ≡ putOf o v (Between a b) → maybeBy g q ≡ putOf p w (Between c d) → some q ≡ thenRow (putOf s v (Between a b)) (λ x. putOf x w (Between c d))
+unfolding thenRow putOf
+put-both s p q v w a b c d f g e first second = rw (there g q _ second, there f p _ first, e) refl

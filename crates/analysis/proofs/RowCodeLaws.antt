@@ -26,10 +26,10 @@ same-row : {l m h k : List ℤ} → l ≡ m → h ≡ k → rowOf l h ≡ rowOf 
 same-row e f = rw (e, f) refl
 
 -- none adds nothing
-pub join-none : (t : Bool) (r s : Row) {u : Bool} → u ≡ false → maybeBy t r ≡ joinRowsOf (maybeBy t r) (maybeBy u s)
-unfolding maybeBy joinRowsOf
-join-none true r s e = rw e refl
-join-none false r s e = rw e refl
+pub join-none : (m : Maybe) → m ≡ joinRowsOf m none
+unfolding joinRowsOf
+join-none none = refl
+join-none (some r) = refl
 
 -- what narrowing made, from whether there is a row and from the row
 pub left-again : (m : Maybe) → maybeBy (isSome m) (leftOf m) ≡ m

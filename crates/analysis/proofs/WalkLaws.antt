@@ -29,7 +29,7 @@ use Rattle.table.proofs.Shape.{the-type}
 use Rattle.table.proofs.TreeLaws.{arith-of, cond-of}
 use Rattle.analysis.specs.declared.Alarm.{Alarm}
 use Rattle.analysis.specs.declared.Split.{Split}
-use Rattle.analysis.specs.Rows.{Row, rangeOf, Maybe, rowIf, maybeBy, thenRow, joinRowsOf}
+use Rattle.analysis.specs.Rows.{Row, rangeOf, Maybe, some, rowIf, maybeBy, thenRow, joinRowsOf}
 use Rattle.analysis.specs.Alarms.{toldOf, markedOf}
 use Rattle.analysis.specs.Analysis.{valueOf, alarmsOf, decisionOf, condAlarmsOf, narrowOf, rangeOn, alarmsOn}
 use Rattle.analysis.specs.Cuts.{variableOr, cutRowOf}
@@ -256,6 +256,18 @@ pub turned-joined :
     (c : Cond) (w : Bool) (r u v : Row) (j : Maybe) (m : List ℕ) {d : Decision} {y z o : Maybe} {m′ : List ℕ}
     → Turned c w r u v m d y z m′ → o ≡ joinRowsOf j y → Splits c w r u v j m d z o m′
 turned-joined c w r u v j m h e = (h .0, (h .1 .1 .0, (rw (← h .1 .0) e, h .1 .1 .1)))
+
+-- where there was no row, what the opposite leaves stands in the place of the copy v′ of the row v
+pub turned-alone :
+    (c : Cond) (w : Bool) (r u v q : Row) (m : List ℕ) {t : Bool} {v′ : Row} {d : Decision} {y z o : Maybe} {m′ : List ℕ}
+    → v′ ≡ v → Turned c w r u v′ m d y z m′ → t ≡ false → o ≡ y → Splits c w r u v (maybeBy t q) m d z o m′
+unfolding maybeBy joinRowsOf
+turned-alone c w r u v q m e h f k = rw (← e, f) (h .0, (h .1 .1 .0, (k ∙ h .1 .0, h .1 .1 .1)))
+
+-- and where there was one, both together
+pub joined-to : (r q : Row) (s : Maybe) {t : Bool} → t ≡ true → some q ≡ joinRowsOf (some r) s → maybeBy true q ≡ joinRowsOf (maybeBy t r) s
+unfolding maybeBy
+joined-to r q s e h = rw e h
 
 -- ---- a comparison: its cuts on the row, put in place of the intervals of its variables
 pub cuts-known :

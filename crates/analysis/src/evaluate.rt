@@ -1,7 +1,7 @@
 // The interval of arithmetic on a row, and what a condition says of a row, with their alarms marked in the same walk. They call each other, the node
 // number falling. A comparison's sides are evaluated once, on the row that is read, for its decision and for what it cuts; they are evaluated again, without
-// alarms, only for a row that isn't a copy of that. A row is made for a branch of a choice, and for a pair of conditions that is joined where a place is
-// taken (`split_apart`, `split_turned`). A point's row is read where it lies in the proposal (`value_on`).
+// alarms, only for a row that isn't a copy of that. No comparison copies a row. One is made for a branch of a choice, and for a pair of conditions that is
+// joined where a place is taken (`split_apart`, `split_turned`). A point's row is read where it lies in the proposal (`value_on`).
 use crate::Asked;
 use crate::Row;
 use crate::Said;
@@ -11,11 +11,12 @@ use crate::narrow::add_cuts;
 use crate::narrow::put_cuts;
 use crate::narrow::variable_or;
 use crate::rows::clear_unless;
+use crate::rows::copy_unless;
 use crate::rows::is_copy;
-use crate::rows::join_rows;
 use crate::rows::own;
 use crate::rows::range_in;
 use crate::rows::slot;
+use crate::rows::widen_if;
 use interval::Comparison;
 use interval::Cuts;
 use interval::Decision;
@@ -150,7 +151,7 @@ fn choose_split<'a, 'b, 'c>(
     ensures { λ r. ⌜ now (marks .exit) ≡ markedOf (now (marks .entry)) (alarmsOf (choice 0 (condAt (now (nodes .entry)) c) (arithAt (now (nodes .entry)) a) (arithAt (now (nodes .entry)) b)) (rowIn (now (row .entry)))) ⌝ }
 {
     let mut yes = *row;
-    let mut no = [0i32; 32];
+    let mut no = *row;
     let asked = Asked {
         truth: true,
         copy: true,
@@ -183,7 +184,8 @@ fn branch<'a, 'b, 'c>(
 }
 
 // What the condition node n says of the row: its decision, with its alarms. The row narrowed is narrowed in its place by the truth that is asked for. What
-// the opposite leaves of the row from is joined to the row joined, if there is one, in that one's place.
+// the opposite leaves of the row from is joined to the row joined, if there is one, in that one's place; as long as there is none, a copy of the row from
+// stands there, so that a comparison puts its cuts in and copies nothing.
 fn split<'a, 'b, 'c, 'd, 'e>(
     nodes: &'a [i32],
     n: usize,
@@ -194,7 +196,8 @@ fn split<'a, 'b, 'c, 'd, 'e>(
     from: &'b Row,
     joined: &'e mut Row,
 ) -> Said
-    requires { ⌜ CopyIf (asked .copy) (now narrowed) (now row) × CopyIf (asked .«from_copy») (now from) (now row) ⌝ }
+    requires { ⌜ CopyIf (asked .copy) (now narrowed) (now row) × CopyIf (asked .«from_copy») (now from) (now row) × CopyIf (not (asked .some)) (now joined) (now from) ⌝ }
+    ensures { λ r. ⌜ CopyIf (not (r .joined)) (now (joined .exit)) (now (from .entry)) ⌝ }
     ensures { λ r. ⌜ r .decision ≡ decisionOf (condAt (now (nodes .entry)) n) (rowIn (now (row .entry))) ⌝ }
     ensures { λ r. ⌜ maybeBy (r .narrowed) (rowIn (now (narrowed .exit))) ≡ narrowOf (condAt (now (nodes .entry)) n) (asked .truth) (rowIn (now (narrowed .entry))) ⌝ }
     ensures { λ r. ⌜ maybeBy (r .joined) (rowIn (now (joined .exit))) ≡ joinRowsOf (maybeBy (asked .some) (rowIn (now (joined .entry)))) (narrowOf (condAt (now (nodes .entry)) n) (not (asked .truth)) (rowIn (now (from .entry)))) ⌝ }
@@ -247,7 +250,8 @@ fn split_in_turn<'a, 'b, 'c, 'd, 'e>(
     from: &'b Row,
     joined: &'e mut Row,
 ) -> Said
-    requires { ⌜ CopyIf (asked .copy) (now narrowed) (now row) × CopyIf (asked .«from_copy») (now from) (now row) ⌝ }
+    requires { ⌜ CopyIf (asked .copy) (now narrowed) (now row) × CopyIf (asked .«from_copy») (now from) (now row) × CopyIf (not (asked .some)) (now joined) (now from) ⌝ }
+    ensures { λ r. ⌜ CopyIf (not (r .joined)) (now (joined .exit)) (now (from .entry)) ⌝ }
     ensures { λ r. ⌜ r .decision ≡ decisionOf (pairOf (asked .truth) (condAt (now (nodes .entry)) a) (condAt (now (nodes .entry)) b)) (rowIn (now (row .entry))) ⌝ }
     ensures { λ r. ⌜ maybeBy (r .narrowed) (rowIn (now (narrowed .exit))) ≡ narrowOf (pairOf (asked .truth) (condAt (now (nodes .entry)) a) (condAt (now (nodes .entry)) b)) (asked .truth) (rowIn (now (narrowed .entry))) ⌝ }
     ensures { λ r. ⌜ maybeBy (r .joined) (rowIn (now (joined .exit))) ≡ joinRowsOf (maybeBy (asked .some) (rowIn (now (joined .entry)))) (narrowOf (pairOf (asked .truth) (condAt (now (nodes .entry)) a) (condAt (now (nodes .entry)) b)) (not (asked .truth)) (rowIn (now (from .entry)))) ⌝ }
@@ -271,8 +275,8 @@ fn split_in_turn<'a, 'b, 'c, 'd, 'e>(
     }
 }
 
-// The other way round: what both sides leave of the row narrowed is joined, and their opposites narrow the row from in turn. Where something was joined
-// before, they need a row of their own.
+// The other way round: what both sides leave of the row narrowed is joined, and their opposites narrow the row from in turn, as the copy of it that stands in
+// the place joined. Where something was joined before, they need a row of their own.
 fn split_joined<'a, 'b, 'c, 'd, 'e>(
     nodes: &'a [i32],
     a: usize,
@@ -284,7 +288,8 @@ fn split_joined<'a, 'b, 'c, 'd, 'e>(
     from: &'b Row,
     joined: &'e mut Row,
 ) -> Said
-    requires { ⌜ CopyIf (asked .copy) (now narrowed) (now row) × CopyIf (asked .«from_copy») (now from) (now row) ⌝ }
+    requires { ⌜ CopyIf (asked .copy) (now narrowed) (now row) × CopyIf (asked .«from_copy») (now from) (now row) × CopyIf (not (asked .some)) (now joined) (now from) ⌝ }
+    ensures { λ r. ⌜ CopyIf (not (r .joined)) (now (joined .exit)) (now (from .entry)) ⌝ }
     ensures { λ r. ⌜ r .decision ≡ decisionOf (pairOf (not (asked .truth)) (condAt (now (nodes .entry)) a) (condAt (now (nodes .entry)) b)) (rowIn (now (row .entry))) ⌝ }
     ensures { λ r. ⌜ maybeBy (r .narrowed) (rowIn (now (narrowed .exit))) ≡ narrowOf (pairOf (not (asked .truth)) (condAt (now (nodes .entry)) a) (condAt (now (nodes .entry)) b)) (asked .truth) (rowIn (now (narrowed .entry))) ⌝ }
     ensures { λ r. ⌜ maybeBy (r .joined) (rowIn (now (joined .exit))) ≡ joinRowsOf (maybeBy (asked .some) (rowIn (now (joined .entry)))) (narrowOf (pairOf (not (asked .truth)) (condAt (now (nodes .entry)) a) (condAt (now (nodes .entry)) b)) (not (asked .truth)) (rowIn (now (from .entry)))) ⌝ }
@@ -293,8 +298,8 @@ fn split_joined<'a, 'b, 'c, 'd, 'e>(
     if asked.some {
         return split_apart(nodes, a, b, row, marks, asked, narrowed, from, joined);
     }
-    *joined = *from;
     let s = split_turned(nodes, a, b, row, marks, asked, narrowed, joined);
+    copy_unless(s.narrowed, joined, from);
     let d = s.decision;
     Said {
         decision: d,
@@ -315,7 +320,8 @@ fn split_apart<'a, 'b, 'c, 'd, 'e>(
     from: &'b Row,
     joined: &'e mut Row,
 ) -> Said
-    requires { ⌜ CopyIf (asked .copy) (now narrowed) (now row) × CopyIf (asked .«from_copy») (now from) (now row) ⌝ }
+    requires { ⌜ CopyIf (asked .copy) (now narrowed) (now row) × CopyIf (asked .«from_copy») (now from) (now row) × (asked .some ≡ true) ⌝ }
+    ensures { λ r. ⌜ r .joined ≡ true ⌝ }
     ensures { λ r. ⌜ r .decision ≡ decisionOf (pairOf (not (asked .truth)) (condAt (now (nodes .entry)) a) (condAt (now (nodes .entry)) b)) (rowIn (now (row .entry))) ⌝ }
     ensures { λ r. ⌜ maybeBy (r .narrowed) (rowIn (now (narrowed .exit))) ≡ narrowOf (pairOf (not (asked .truth)) (condAt (now (nodes .entry)) a) (condAt (now (nodes .entry)) b)) (asked .truth) (rowIn (now (narrowed .entry))) ⌝ }
     ensures { λ r. ⌜ maybeBy (r .joined) (rowIn (now (joined .exit))) ≡ joinRowsOf (maybeBy (asked .some) (rowIn (now (joined .entry)))) (narrowOf (pairOf (not (asked .truth)) (condAt (now (nodes .entry)) a) (condAt (now (nodes .entry)) b)) (not (asked .truth)) (rowIn (now (from .entry)))) ⌝ }
@@ -323,12 +329,12 @@ fn split_apart<'a, 'b, 'c, 'd, 'e>(
 {
     let mut own = *from;
     let s = split_turned(nodes, a, b, row, marks, asked, narrowed, &mut own);
-    let more = join_rows(asked.some, joined, s.narrowed, &own);
+    widen_if(s.narrowed, joined, &own);
     let d = s.decision;
     Said {
         decision: d,
         narrowed: s.joined,
-        joined: more,
+        joined: true,
     }
 }
 
@@ -376,7 +382,8 @@ fn split_by<'a, 'b, 'd, 'e>(
     from: &'b Row,
     joined: &'e mut Row,
 ) -> Said
-    requires { ⌜ KnownIf (asked .copy) (now nodes) a b x y (now narrowed) × KnownIf (asked .«from_copy») (now nodes) a b x y (now from) ⌝ }
+    requires { ⌜ KnownIf (asked .copy) (now nodes) a b x y (now narrowed) × KnownIf (asked .«from_copy») (now nodes) a b x y (now from) × CopyIf (not (asked .some)) (now joined) (now from) ⌝ }
+    ensures { λ r. ⌜ CopyIf (not (r .joined)) (now (joined .exit)) (now (from .entry)) ⌝ }
     ensures { λ r. ⌜ r .decision ≡ compareOf k x y ⌝ }
     ensures { λ r. ⌜ maybeBy (r .narrowed) (rowIn (now (narrowed .exit))) ≡ narrowOf (compare 0 k (arithAt (now (nodes .entry)) a) (arithAt (now (nodes .entry)) b)) (asked .truth) (rowIn (now (narrowed .entry))) ⌝ }
     ensures { λ r. ⌜ maybeBy (r .joined) (rowIn (now (joined .exit))) ≡ joinRowsOf (maybeBy (asked .some) (rowIn (now (joined .entry)))) (narrowOf (compare 0 k (arithAt (now (nodes .entry)) a) (arithAt (now (nodes .entry)) b)) (not (asked .truth)) (rowIn (now (from .entry)))) ⌝ }
@@ -443,6 +450,8 @@ fn opposed(s: Said) -> Said
 
 // A node that is no condition is false.
 fn no_condition<'b, 'e>(asked: Asked, from: &'b Row, joined: &'e mut Row) -> Said
+    requires { ⌜ CopyIf (not (asked .some)) (now joined) (now from) ⌝ }
+    ensures { λ r. ⌜ CopyIf (not (r .joined)) (now (joined .exit)) (now (from .entry)) ⌝ }
     ensures { λ r. ⌜ r .decision ≡ decision false true ⌝ }
     ensures { λ r. ⌜ r .narrowed ≡ not (asked .truth) ⌝ }
     ensures { λ r. ⌜ maybeBy (r .joined) (rowIn (now (joined .exit))) ≡ joinRowsOf (maybeBy (asked .some) (rowIn (now (joined .entry)))) (maybeBy (asked .truth) (rowIn (now (from .entry)))) ⌝ }
@@ -451,11 +460,18 @@ fn no_condition<'b, 'e>(asked: Asked, from: &'b Row, joined: &'e mut Row) -> Sai
         yes: false,
         no: true,
     };
-    let more = join_rows(asked.some, joined, asked.truth, from);
+    if asked.some {
+        widen_if(asked.truth, joined, from);
+        return Said {
+            decision: d,
+            narrowed: !asked.truth,
+            joined: true,
+        };
+    }
     Said {
         decision: d,
         narrowed: !asked.truth,
-        joined: more,
+        joined: asked.truth,
     }
 }
 
@@ -512,6 +528,7 @@ pub fn sides<'a, 'b, 'c, 'd, 'e>(
     ensures { λ r. ⌜ now (marks .exit) ≡ markedOf (now (marks .entry)) (condAlarmsOf (condAt (now (nodes .entry)) n) (rowIn (now (row .entry)))) ⌝ }
 {
     *yes = *row;
+    *no = *row;
     let asked = Asked {
         truth: true,
         copy: true,

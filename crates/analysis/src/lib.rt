@@ -26,7 +26,7 @@ pub struct Bare {
 }
 
 // What a condition is asked: the truth by which a row is narrowed in its place; whether that row is a copy of the row that is read, and whether the row
-// from which the opposite starts is one; and whether there is a row that what the opposite leaves is joined to.
+// from which the opposite starts is one; and whether there is a row that what the opposite leaves is joined to, or a copy of the row from which it starts.
 pub(crate) struct Asked {
     pub(crate) truth: bool,
     pub(crate) copy: bool,

@@ -11,11 +11,11 @@ use interval::lattice::meet;
 use table::Shape;
 use table::decode::shape_at;
 ghost use mathlib.Core.Path.{_≡_};
+ghost use mathlib.Core.Bool.{not};
 ghost use Prim.Native.Nat.{_<_};
-ghost use lib.ListN.{length};
 ghost use Rattle.table.specs.Tree.{arithAt, condAt};
-ghost use Rattle.analysis.specs.Rows.{some, maybeBy, joinRowsOf};
-ghost use Rattle.analysis.specs.Arrays.{rowIn};
+ghost use Rattle.analysis.specs.Rows.{maybeBy, joinRowsOf};
+ghost use Rattle.analysis.specs.Arrays.{rowIn, CopyIf};
 ghost use Rattle.analysis.specs.Bare.{bareOf, turnedOf};
 ghost use Rattle.analysis.specs.Cuts.{variableOr, cutRowOf, metIf};
 
@@ -73,25 +73,8 @@ pub fn met_if(same: bool, left: Interval, right: Interval) -> Interval
     if same { meet(left, right) } else { right }
 }
 
-// The row together with what the cuts u of the variables v and w leave of the row from, in the row's place.
-fn widen_by<'a, 'b>(row: &'a mut [i32], from: &'b [i32], v: usize, w: usize, u: Cuts)
-    requires { ⌜ (length (now row) ≡ 32) × (length (now from) ≡ 32) ⌝ }
-    requires { ⌜ ((v ≡ w) → (v < 16)) ⌝ }
-    ensures { λ r. ⌜ some (rowIn (now (row .exit))) ≡ joinRowsOf (some (rowIn (now (row .entry)))) (cutRowOf (rowIn (now (from .entry))) v w u) ⌝ }
-{
-    let left = u.left;
-    let right = u.right;
-    let last = met_if(v == w, left, right);
-    let Interval::Between(a, b) = left else {
-        return;
-    };
-    let Interval::Between(c, d) = last else {
-        return;
-    };
-    widen_cut(row, from, v, a, b, w, c, d);
-}
-
-// The same where there may be no row yet.
+// What the cuts u of the variables v and w leave of the row from, together with the row, if there is some, in the row's place. Where there is none, the row is
+// a copy of the row from, and stays one where the cuts leave nothing.
 pub(crate) fn add_cuts<'a, 'b>(
     some: bool,
     row: &'a mut Row,
@@ -100,13 +83,26 @@ pub(crate) fn add_cuts<'a, 'b>(
     u: Cuts,
     from: &'b Row,
 ) -> bool
+    requires { ⌜ CopyIf (not some) (now row) (now from) ⌝ }
     requires { ⌜ ((v ≡ w) → (v < 16)) ⌝ }
+    ensures { λ r. ⌜ CopyIf (not r) (now (row .exit)) (now (from .entry)) ⌝ }
     ensures { λ r. ⌜ maybeBy r (rowIn (now (row .exit))) ≡ joinRowsOf (maybeBy some (rowIn (now (row .entry)))) (cutRowOf (rowIn (now (from .entry))) v w u) ⌝ }
 {
-    if !some {
-        *row = *from;
-        return put_cuts(row, v, w, u);
+    let more: &[i32] = from;
+    let left = u.left;
+    let right = u.right;
+    let last = met_if(v == w, left, right);
+    let Interval::Between(a, b) = left else {
+        return some;
+    };
+    let Interval::Between(c, d) = last else {
+        return some;
+    };
+    if some {
+        widen_cut(row, more, v, a, b, w, c, d);
+        return true;
     }
-    widen_by(row, from, v, w, u);
+    put(row, v, left);
+    put(row, w, last);
     true
 }

@@ -10,7 +10,7 @@ use interval::lattice::meet;
 use words::part;
 use words::word;
 ghost use mathlib.Core.Path.{_≡_};
-ghost use mathlib.Core.Bool.{true};
+ghost use mathlib.Core.Bool.{true, not};
 ghost use Prim.Native.Nat.{_≤_};
 ghost use lib.ListN.{length};
 ghost use lib.Seq.{paste};
@@ -19,7 +19,7 @@ ghost use Rattle.interval.specs.declared.Interval.the-variants.{Between};
 ghost use Rattle.words.specs.Words.{wordOf};
 ghost use Rattle.words.specs.First.{allBelow};
 ghost use Rattle.analysis.specs.Rows.{rowOf, rangeOf, ownOf, putOf, meetAtOf, thenRow, joinRowsOf, some, maybeBy};
-ghost use Rattle.analysis.specs.Arrays.{rowIn, outerOf, leftOf};
+ghost use Rattle.analysis.specs.Arrays.{rowIn, outerOf, leftOf, CopyIf};
 
 // The interval of the variable v.
 pub fn range<'a>(lows: &'a [i32], highs: &'a [i32], v: usize) -> Interval
@@ -153,19 +153,14 @@ pub(crate) fn widen_cut<'a, 'b>(
     put(row, w, y);
 }
 
-// The row, if x, and the other, if y, together, in the row's place. None adds nothing.
-pub(crate) fn join_rows<'a, 'b>(x: bool, row: &'a mut Row, y: bool, more: &'b Row) -> bool
-    ensures { λ r. ⌜ maybeBy r (rowIn (now (row .exit))) ≡ joinRowsOf (maybeBy x (rowIn (now (row .entry)))) (maybeBy y (rowIn (now (more .entry)))) ⌝ }
+// The row and the other, if that is there, together, in the row's place.
+pub(crate) fn widen_if<'a, 'b>(there: bool, row: &'a mut Row, more: &'b Row)
+    ensures { λ r. ⌜ some (rowIn (now (row .exit))) ≡ joinRowsOf (some (rowIn (now (row .entry)))) (maybeBy there (rowIn (now (more .entry)))) ⌝ }
 {
-    if !y {
-        return x;
-    }
-    if !x {
-        *row = *more;
-        return true;
+    if !there {
+        return;
     }
     widen(row, more);
-    true
 }
 
 // Whether all words are the same.
@@ -194,6 +189,16 @@ pub(crate) fn is_copy<'a, 'b>(some: bool, left: &'a mut Row, row: &'b Row) -> bo
     }
     let l = &*left;
     equal(l, row)
+}
+
+// A copy of the row from in the row's place, where there is none.
+pub(crate) fn copy_unless<'a, 'b>(some: bool, row: &'a mut Row, from: &'b Row)
+    ensures { λ r. ⌜ maybeBy some (rowIn (now (row .exit))) ≡ maybeBy some (rowIn (now (row .entry))) ⌝ }
+    ensures { λ r. ⌜ CopyIf (not some) (now (row .exit)) (now (from .entry)) ⌝ }
+{
+    if !some {
+        *row = *from;
+    }
 }
 
 // Zeros in the row's place, where there is none.

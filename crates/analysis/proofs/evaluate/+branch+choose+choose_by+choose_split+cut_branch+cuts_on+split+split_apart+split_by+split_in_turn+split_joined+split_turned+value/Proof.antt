@@ -8,12 +8,12 @@ use mathlib.Core.Bool.{not}
 use native.Mathlib.Omega.{arith}
 use borrow.Author.Tests.{not-true, not-false}
 use Rattle.interval.proofs.MachineArithmetic.{handed32}
+use Rattle.words.proofs.Bools.{clash}
 use Rattle.words.proofs.Signed.{read-back}
 use Rattle.table.specs.Tree.{arithBy}
 use Rattle.table.proofs.TreeLaws.{children-of}
-use Rattle.analysis.proofs.WalkLaws.{branch-taken, branch-left-out, constant-valued, input-valued, variable-valued, negation-valued, binary-valued, choice-valued, chosen, cut-left-out, cut-taken, chosen-by, choice-by, no-value, sides-of, in-turn-splits, turned, turned-copy, turned-joined, cuts-known, cut-leaves, one-slot, compare-splits, both-node-splits, either-node-splits, not-splits, no-splits, copy-known}
+use Rattle.analysis.proofs.WalkLaws.{branch-taken, branch-left-out, constant-valued, input-valued, variable-valued, negation-valued, binary-valued, choice-valued, chosen, cut-left-out, cut-taken, chosen-by, choice-by, no-value, sides-of, in-turn-splits, turned, turned-copy, turned-joined, turned-alone, joined-to, cuts-known, cut-leaves, one-slot, compare-splits, both-node-splits, either-node-splits, not-splits, no-splits, copy-known}
 use Rattle.analysis.specs.Rows.{joinRowsOf}
-use Rattle.analysis.proofs.NarrowCodeLaws.{add-alone}
 use Rattle.analysis.specs.Arrays.{rowIn}
 use Rattle.analysis.proofs.RowCodeLaws.{few-lows, few-highs}
 use Prim.Native.Nat.{ℕ, _+_, _*_, _<_, max}
@@ -67,8 +67,9 @@ use Rattle.analysis.proofs.evaluate.opposed.Reads as opposed-reads
 use Rattle.analysis.proofs.narrow.add_cuts.Reads as add-cuts-reads
 use Rattle.analysis.proofs.narrow.put_cuts.Reads as put-cuts-reads
 use Rattle.analysis.proofs.narrow.variable_or.Reads as variable-or-reads
+use Rattle.analysis.proofs.rows.copy_unless.Reads as copy-unless-reads
 use Rattle.analysis.proofs.rows.is_copy.Reads as is-copy-reads
-use Rattle.analysis.proofs.rows.join_rows.Reads as join-rows-reads
+use Rattle.analysis.proofs.rows.widen_if.Reads as widen-if-reads
 use Rattle.analysis.proofs.rows.range_in.Reads as range-in-reads
 use Rattle.interval.proofs.arithmetic.negate.Reads as negate-reads
 use Rattle.interval.proofs.arithmetic.operate.Reads as operate-reads
@@ -223,7 +224,7 @@ abbrev split-calls : ℕ → split-lts.Claims
 split-calls t = (shape-at-reads.Asked, shape-at-reads.Learnt, value-below t, value.Post, split-by-below t, split-by.Post, split-in-turn-below t, split-in-turn.Post, split-joined-below t, split-joined.Post, split-below t, split.Post, opposed-reads.Asked, opposed-reads.Learnt, no-condition-reads.Asked, no-condition-reads.Learnt)
 
 abbrev split-apart-calls : ℕ → split-apart-lts.Claims
-split-apart-calls t = (split-turned-below t, split-turned.Post, join-rows-reads.Asked, join-rows-reads.Learnt)
+split-apart-calls t = (split-turned-below t, split-turned.Post, widen-if-reads.Asked, widen-if-reads.Learnt)
 
 abbrev split-by-calls : ℕ → split-by-lts.Claims
 split-by-calls t = (compare-reads.Asked, compare-reads.Learnt, variable-or-reads.Asked, variable-or-reads.Learnt, cuts-on-below t, cuts-on.Post, put-cuts-reads.Asked, put-cuts-reads.Learnt, add-cuts-reads.Asked, add-cuts-reads.Learnt)
@@ -232,7 +233,7 @@ abbrev split-in-turn-calls : ℕ → split-in-turn-lts.Claims
 split-in-turn-calls t = (split-below t, split.Post, is-copy-reads.Asked, is-copy-reads.Learnt, combine-reads.Asked, combine-reads.Learnt)
 
 abbrev split-joined-calls : ℕ → split-joined-lts.Claims
-split-joined-calls t = (split-apart-below t, split-apart.Post, split-turned-below t, split-turned.Post)
+split-joined-calls t = (split-apart-below t, split-apart.Post, split-turned-below t, split-turned.Post, copy-unless-reads.Asked, copy-unless-reads.Learnt)
 
 abbrev split-turned-calls : ℕ → split-turned-lts.Claims
 split-turned-calls t = (split-in-turn-below t, split-in-turn.Post)
@@ -305,7 +306,7 @@ unfolding arithBy
     chosen-by _ (rowIn row) _ _ _ _ _ _ (few-lows row) (few-highs row) (left .value .ensures) (right .value2 .ensures) (test .compare .ensures) (left-at .variable-or .ensures)
     (right-at .variable-or2 .ensures) (yes .cuts .ensures) (no .cuts2 .ensures) (then .cut-branch .ensures) (else .cut-branch2 .ensures) (c .join .ensures)))
     (λ t. choose-split-lts.spec (choose-split-calls t) (choose-split-at t) choose-split.Post
-    (λ c κs. (omega arith, (λ e. refl, λ e. refl)))
+    (λ c κs. (omega arith, (λ e. refl, λ e. refl, λ e. refl)))
     (λ c κs. omega arith)
     (λ c κs. omega arith)
     (λ c κs. search needs)
@@ -314,7 +315,7 @@ unfolding arithBy
     let else = c .before .before .before in
     let then = else .before .before .before .before .before .before .before in
     let said = then .before .before .before .before .before .before .before .before in
-    chosen _ _ _ _ _ _ _ _ _ _ (sides-of _ _ _ _ (said .split .ensures)) (then .branch .ensures) (else .branch2 .ensures) (c .join .ensures)))
+    chosen _ _ _ _ _ _ _ _ _ _ (sides-of _ _ _ _ (said .split .ensures .1)) (then .branch .ensures) (else .branch2 .ensures) (c .join .ensures)))
     (λ t. cut-branch-lts.spec (cut-branch-calls t) (cut-branch-at t) cut-branch.Post
     (λ c. cut-left-out _ _ _ _ _ _ _ (not-true _ (c .if1 .taken)))
     (λ c κs. search needs)
@@ -349,7 +350,7 @@ unfolding arithBy
     let below = children-of _ _ (sym (arm .before .before .shape-at .ensures) ∙ arm .shape .given .1) in
     let x = left .value .ensures .0 in
     let y = right .value2 .ensures .0 in
-    (omega arith, (copy-known _ _ _ _ _ _ (start .pre .1 .0) x y, copy-known _ _ _ _ _ _ (start .pre .1 .1) x y)))
+    (omega arith, (copy-known _ _ _ _ _ _ (start .pre .1 .0) x y, copy-known _ _ _ _ _ _ (start .pre .1 .1) x y, start .pre .1 .2)))
     (λ c. search needs)
     (λ c κs. let arm = c .before .before .before .before .before in let below = children-of _ _ (sym (arm .before .before .shape-at .ensures) ∙ arm .shape2 .given .1) in (omega arith, arm .before .before .before .before .pre .1))
     (λ c κs. let arm = c .before .before .before .before .before in let below = children-of _ _ (sym (arm .before .before .shape-at .ensures) ∙ arm .shape2 .given .1) in (omega arith, arm .before .before .before .before .pre .1))
@@ -359,50 +360,57 @@ unfolding arithBy
     (λ c. search needs)
     (λ c κs. let arm = c .before .before .before .before .before in let below = children-of _ _ (sym (arm .before .before .shape-at .ensures) ∙ arm .shape4 .given .1) in (omega arith, arm .before .before .before .before .pre .1))
     (λ c κs. search needs)
-    (λ c κs. search needs)
+    (λ c κs. c .before .before .before .before .pre .1 .2)
     (λ c. search needs)
     (λ c.
     let right = c .before .before .before .before .before in
     let left = right .before .before .before .before in
     let arm = left .before .before .before in
-    compare-splits _ _ _ _ _ _ _ _ (sym (arm .before .before .shape-at .ensures) ∙ arm .shape .given .1) (left .value .ensures) (right .value2 .ensures) (c .split-by .ensures))
+    (c .split-by .ensures .0, compare-splits _ _ _ _ _ _ _ _ (sym (arm .before .before .shape-at .ensures) ∙ arm .shape .given .1) (left .value .ensures) (right .value2 .ensures) (c .split-by .ensures .1)))
     (λ c. search needs)
     (λ c.
     let said = c .before .before in
     let test = said .before .before .before .before in
     let arm = test .before .before in
-    both-node-splits _ _ _ _ _ _ _ _ (sym (arm .before .before .shape-at .ensures) ∙ arm .shape2 .given .1) (test .if1 .taken) (said .split-in-turn .ensures))
+    (said .split-in-turn .ensures .0, both-node-splits _ _ _ _ _ _ _ _ (sym (arm .before .before .shape-at .ensures) ∙ arm .shape2 .given .1) (test .if1 .taken) (said .split-in-turn .ensures .1)))
     (λ c. search needs)
     (λ c.
     let said = c .before .before in
     let test = said .before .before .before .before in
     let arm = test .before .before in
-    both-node-splits _ _ _ _ _ _ _ _ (sym (arm .before .before .shape-at .ensures) ∙ arm .shape2 .given .1) (ap not (test .if1 .left)) (said .split-joined .ensures))
+    (said .split-joined .ensures .0, both-node-splits _ _ _ _ _ _ _ _ (sym (arm .before .before .shape-at .ensures) ∙ arm .shape2 .given .1) (ap not (test .if1 .left)) (said .split-joined .ensures .1)))
     (λ c. search needs)
     (λ c.
     let said = c .before .before in
     let test = said .before .before .before .before in
     let arm = test .before .before in
-    either-node-splits _ _ _ _ _ _ _ _ (sym (arm .before .before .shape-at .ensures) ∙ arm .shape3 .given .1) (ap not (test .if2 .taken)) (said .split-joined2 .ensures))
+    (said .split-joined2 .ensures .0, either-node-splits _ _ _ _ _ _ _ _ (sym (arm .before .before .shape-at .ensures) ∙ arm .shape3 .given .1) (ap not (test .if2 .taken)) (said .split-joined2 .ensures .1)))
     (λ c. search needs)
     (λ c.
     let said = c .before .before in
     let test = said .before .before .before .before in
     let arm = test .before .before in
-    either-node-splits _ _ _ _ _ _ _ _ (sym (arm .before .before .shape-at .ensures) ∙ arm .shape3 .given .1) (test .if2 .left) (said .split-in-turn2 .ensures))
+    (said .split-in-turn2 .ensures .0, either-node-splits _ _ _ _ _ _ _ _ (sym (arm .before .before .shape-at .ensures) ∙ arm .shape3 .given .1) (test .if2 .left) (said .split-in-turn2 .ensures .1)))
     (λ c. search needs)
     (λ c.
     let said = c .before .before .before in
     let arm = said .before .before .before .before .before .before in
-    not-splits _ _ _ _ _ _ _ _ _ _ _ _ _ _ (sym (arm .before .before .shape-at .ensures) ∙ arm .shape4 .given .1) (said .split .ensures) (c .opposed .ensures))
+    let same = c .opposed .ensures .1 .1 in (
+      λ e. said .split .ensures .0 (ap not (sym same) ∙ e),
+      not-splits _ _ _ _ _ _ _ _ _ _ _ _ _ _ (sym (arm .before .before .shape-at .ensures) ∙ arm .shape4 .given .1) (said .split .ensures .1) (c .opposed .ensures),
+    ))
     (λ c.
     let arm = c .before .before in
-    no-splits _ _ _ _ _ _ _ _ _ _ (sym (arm .before .shape-at .ensures)) (arm .match .keys5) (c .no-condition .ensures)))
+    (c .no-condition .ensures .0, no-splits _ _ _ _ _ _ _ _ _ _ (sym (arm .before .shape-at .ensures)) (arm .match .keys5) (c .no-condition .ensures .1))))
     (λ t. split-apart-lts.spec (split-apart-calls t) (split-apart-at t) split-apart.Post
-    (λ c κs. (omega arith, c .before .before .before .before .before .pre .1))
+    (λ c κs. let start = c .before .before .before .before .before in (omega arith, (start .pre .1 .0, start .pre .1 .1)))
     (λ c κs. search needs)
     (λ c. search needs)
-    (λ c. let joined = c .before in let said = joined .before .before .before .before .before in turned-joined _ _ _ _ _ _ _ (said .split-turned .ensures) (joined .join-rows .ensures)))
+    (λ c.
+    let joined = c .before in
+    let said = joined .before .before .before .before .before in
+    let start = said .before .before .before .before .before .before in
+    (refl, turned-joined _ _ _ _ _ _ _ (said .split-turned .ensures) (joined-to _ _ _ (start .pre .1 .2) (joined .widen-if .ensures)))))
     (λ t. split-by-lts.spec (split-by-calls t) (split-by-at t) split-by.Post
     (λ c κs. search needs)
     (λ c κs. search needs)
@@ -410,7 +418,10 @@ unfolding arithBy
     (λ c κs. let start = c .before .before .before .before in (omega arith, start .pre .1 .0))
     (λ c κs. search needs)
     (λ c κs. let start = c .before .before .before .before .before .before .before .before in (omega arith, start .pre .1 .1))
-    (λ c κs. let right-at = c .before .before .before .before .before .before .before in one-slot _ _ (right-at .before .variable-or .ensures) (right-at .variable-or2 .ensures))
+    (λ c κs.
+    let right-at = c .before .before .before .before .before .before .before in
+    let left-at = right-at .before in
+    (left-at .before .before .pre .1 .2, one-slot _ _ (left-at .variable-or .ensures) (right-at .variable-or2 .ensures)))
     (λ c.
     let added = c .before .before in
     let put = added .before .before in
@@ -420,10 +431,13 @@ unfolding arithBy
     let given = left-at .before .before .args in
     let v = left-at .variable-or .ensures in
     let w = right-at .variable-or2 .ensures in (
-      left-at .before .compare .ensures,
+      c .add-cuts .ensures .0,
       (
-        put .put-cuts .ensures ∙ cut-leaves _ (now (given .narrowed)) _ _ _ _ v w (kept .cuts-on .ensures),
-        c .add-cuts .ensures ∙ ap (joinRowsOf _) (cut-leaves _ (now (given .from)) _ _ _ _ v w (added .cuts-on2 .ensures)),
+        left-at .before .compare .ensures,
+        (
+          put .put-cuts .ensures ∙ cut-leaves _ (now (given .narrowed)) _ _ _ _ v w (kept .cuts-on .ensures),
+          c .add-cuts .ensures .1 ∙ ap (joinRowsOf _) (cut-leaves _ (now (given .from)) _ _ _ _ v w (added .cuts-on2 .ensures)),
+        ),
       ),
     )))
     (λ t. split-in-turn-lts.spec (split-in-turn-calls t) (split-in-turn-at t) split-in-turn.Post
@@ -433,7 +447,7 @@ unfolding arithBy
     let copied = c .before .before .before in
     let start = copied .before .before .before .before .before .before .before .before .before in
     let falls : 8 * start .args .b < t = omega (arith, start .pre .0) in
-    (falls, (copied .is-copy .ensures .1, start .pre .1 .1)))
+    (falls, (copied .is-copy .ensures .1, start .pre .1 .1, copied .before .before .before .before .split .ensures .0)))
     (λ c κs. search needs)
     (λ c. search needs)
     (λ c.
@@ -441,24 +455,41 @@ unfolding arithBy
     let right = combined .before .before .before .before .before in
     let kept = right .before .before .before .before in
     let left = kept .before .before .before .before in
-    in-turn-splits _ _ _ _ _ _ _ _ _ _ _ _ _ (left .split .ensures) (kept .is-copy .ensures .0) (right .split2 .ensures) (combined .combine .ensures)))
+    (right .split2 .ensures .0, in-turn-splits _ _ _ _ _ _ _ _ _ _ _ _ _ (left .split .ensures .1) (kept .is-copy .ensures .0) (right .split2 .ensures .1) (combined .combine .ensures))))
     (λ t. split-joined-lts.spec (split-joined-calls t) (split-joined-at t) split-joined.Post
-    (λ c κs. (omega arith, c .before .before .before .before .before .pre .1))
+    (λ c κs.
+    let test = c .before .before .before in
+    let start = test .before .before in
+    (omega arith, (start .pre .1 .0, start .pre .1 .1, test .if1 .taken)))
     (λ c. search needs)
-    (λ c. c .before .before .split-apart .ensures)
-    (λ c κs. (omega arith, c .before .before .before .before .before .before .pre .1))
+    (λ c. let said = c .before .before .split-apart .ensures in (λ e. clash (sym e ∙ ap not (said .0)), said .1))
+    (λ c κs.
+    let test = c .before .before .before in
+    let start = test .before .before in
+    (omega arith, (start .pre .1 .0, λ e. start .pre .1 .2 (ap not (test .if1 .left)) ∙ start .pre .1 .1 e)))
+    (λ c κs. search needs)
     (λ c. search needs)
-    (λ c. let said = c .before .before .before in let test = said .before .before .before .before .before in turned-joined _ _ _ _ _ _ _ (said .split-turned .ensures) (add-alone _ _ (test .if1 .left) refl)))
+    (λ c.
+    let copied = c .before in
+    let said = copied .before .before .before .before in
+    let test = said .before .before .before .before in
+    let start = test .before .before in (
+      copied .copy-unless .ensures .1,
+      turned-alone _ _ _ _ _ _ _ (ap rowIn (start .pre .1 .2 (ap not (test .if1 .left)))) (said .split-turned .ensures) (test .if1 .left) (copied .copy-unless .ensures .0),
+    )))
     (λ t. split-turned-lts.spec (split-turned-calls t) (split-turned-at t) split-turned.Post
-    (λ c κs. (omega arith, (c .before .before .before .before .before .before .pre .1 .1, λ e. refl)))
+    (λ c κs.
+    let test = c .before .before .before in
+    let start = test .before .before .before in
+    (omega arith, (start .pre .1 .1, λ e. refl, λ e. start .pre .1 .0 (test .if1 .taken))))
     (λ c. search needs)
     (λ c.
     let said = c .before .before in
     let test = said .before .before .before .before in
-    turned-copy _ _ _ _ _ _ (ap rowIn (test .before .before .before .pre .1 .0 (test .if1 .taken))) (said .split-in-turn .ensures))
-    (λ c κs. let start = c .before .before .before .before .before .before .before .before in (omega arith, (start .pre .1 .1, start .pre .1 .0)))
+    turned-copy _ _ _ _ _ _ (ap rowIn (test .before .before .before .pre .1 .0 (test .if1 .taken))) (said .split-in-turn .ensures .1))
+    (λ c κs. let start = c .before .before .before .before .before .before .before .before in (omega arith, (start .pre .1 .1, start .pre .1 .0, λ e. refl)))
     (λ c. search needs)
-    (λ c. turned _ _ _ _ _ _ _ (c .before .before .split-in-turn2 .ensures)))
+    (λ c. turned _ _ _ _ _ _ _ (c .before .before .split-in-turn2 .ensures .1)))
     (λ t. value-lts.spec (value-calls t) (value-at t) value.Post
     (λ c κs. search needs)
     (λ c. search needs)

@@ -11,7 +11,7 @@ returns : tie.Need-returns
 returns c =
     let no = c .before in
     let yes = no .before .before in
-    let said = sides-of _ _ _ _ (yes .before .before .before .before .split .ensures) in (
+    let said = sides-of _ _ _ _ (yes .before .before .before .before .split .ensures .1) in (
       split-is _ _ _ _ _ (said .0) (said .1 .0) (said .1 .1 .0),
       (
         yes .clear-unless .ensures ∙ ap leftOf (said .1 .0),

@@ -253,6 +253,9 @@ fn no_row() -> Vec<Asked> {
         (either(v_under(5), v_over(3)), UNDECIDED, ALL, None),
         (either(v_under(10), w_under(5)), TRUE, ALL, None),
         (both(v_under(3), w_under(10)), UNDECIDED, of_v(0, 2), of_v(3, 9)),
+        (both(either(v_under(5), v_over(3)), w_under(5)), UNDECIDED, of_w(0, 4), of_w(5, 9)),
+        (either(both(v_under(5), v_over(5)), w_under(5)), UNDECIDED, of_w(0, 4), of_w(5, 9)),
+        (either(both(v_under(5), v_over(5)), low_w()), UNDECIDED, of_w(0, 6), of_w(7, 9)),
     ]
 }
 

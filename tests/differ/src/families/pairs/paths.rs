@@ -15,6 +15,8 @@ struct Pair {
     of_a_part: &'static str,
     to_a_row: &'static str,
     of_a_part_to_a_row: &'static str,
+    /// Joined where nothing was before, and nothing is left.
+    nothing: &'static str,
 }
 
 const BOTH: Pair = Pair {
@@ -23,6 +25,7 @@ const BOTH: Pair = Pair {
     of_a_part: "both: joined of a part of the row",
     to_a_row: "both: joined after a row",
     of_a_part_to_a_row: "both: joined of a part of the row, after a row",
+    nothing: "both: joined to nothing, nothing left",
 };
 
 const EITHER: Pair = Pair {
@@ -31,6 +34,7 @@ const EITHER: Pair = Pair {
     of_a_part: "either: joined of a part of the row",
     to_a_row: "either: joined after a row",
     of_a_part_to_a_row: "either: joined of a part of the row, after a row",
+    nothing: "either: joined to nothing, nothing left",
 };
 
 /// By what the left side leaves before the right one narrows it: nothing of the
@@ -40,20 +44,41 @@ const LEFT_NONE_OF_A_PART: &str = "left side: nothing left of a part of the row"
 const LEFT_COPY: &str = "left side: the whole row left";
 const LEFT_PART: &str = "left side: a part of the row left";
 
-/// By what a comparison adds, and to what.
-const TO_NOTHING: &str = "comparison: joined to nothing";
-const NONE_TO_NOTHING: &str = "comparison: none joined to nothing";
-const TO_A_ROW: &str = "comparison: joined to a row";
-const NO_CUT: &str = "comparison: no cut joined to a row";
-const NO_MEET: &str = "comparison: no meet of two cuts joined to a row";
-const WIDENS: &str = "comparison: widens the row that it is joined to";
+/// By what a comparison adds, and its sides.
+struct Added {
+    row: &'static str,
+    no_cut: &'static str,
+    no_meet: &'static str,
+    same: &'static str,
+    two: &'static str,
+    left: &'static str,
+    right: &'static str,
+    neither: &'static str,
+}
 
-/// By its sides, where it is joined to a row.
-const SAME: &str = "joined to a row: one variable on both sides";
-const TWO: &str = "joined to a row: two variables";
-const LEFT: &str = "joined to a row: no variable on the right";
-const RIGHT: &str = "joined to a row: no variable on the left";
-const NEITHER: &str = "joined to a row: no variable";
+const TO_NOTHING: Added = Added {
+    row: "comparison: joined to nothing",
+    no_cut: "comparison: no cut joined to nothing",
+    no_meet: "comparison: no meet of two cuts joined to nothing",
+    same: "joined to nothing: one variable on both sides",
+    two: "joined to nothing: two variables",
+    left: "joined to nothing: no variable on the right",
+    right: "joined to nothing: no variable on the left",
+    neither: "joined to nothing: no variable",
+};
+
+const TO_A_ROW: Added = Added {
+    row: "comparison: joined to a row",
+    no_cut: "comparison: no cut joined to a row",
+    no_meet: "comparison: no meet of two cuts joined to a row",
+    same: "joined to a row: one variable on both sides",
+    two: "joined to a row: two variables",
+    left: "joined to a row: no variable on the right",
+    right: "joined to a row: no variable on the left",
+    neither: "joined to a row: no variable",
+};
+
+const WIDENS: &str = "comparison: widens the row that it is joined to";
 
 /// By the rows on which its sides are read again: for another interval, or not.
 const AGAIN: &str = "read again: the narrowed row";
@@ -65,13 +90,16 @@ const AGAIN_FROM_OTHER: &str = "read again: the row of the opposite, another int
 pub fn names() -> Vec<&'static str> {
     let of = |pair: Pair| {
         let joined = [pair.in_place, pair.of_a_part, pair.to_a_row, pair.of_a_part_to_a_row];
-        [&[pair.in_turn][..], &joined].concat()
+        [&[pair.in_turn, pair.nothing][..], &joined].concat()
     };
     let left = [LEFT_NONE, LEFT_NONE_OF_A_PART, LEFT_COPY, LEFT_PART];
-    let joined = [TO_NOTHING, NONE_TO_NOTHING, TO_A_ROW, NO_CUT, NO_MEET, WIDENS];
-    let sides = [SAME, TWO, LEFT, RIGHT, NEITHER];
+    let added = |to: Added| {
+        let sides = [to.same, to.two, to.left, to.right, to.neither];
+        [&[to.row, to.no_cut, to.no_meet][..], &sides].concat()
+    };
     let again = [AGAIN, AGAIN_OTHER, AGAIN_FROM, AGAIN_FROM_OTHER];
-    [&of(BOTH)[..], &of(EITHER), &left, &joined, &sides, &again].concat()
+    let joined = [&added(TO_NOTHING)[..], &added(TO_A_ROW), &[WIDENS]].concat();
+    [&of(BOTH)[..], &of(EITHER), &left, &joined, &again].concat()
 }
 
 /// Those that a condition takes on a row.
@@ -101,8 +129,8 @@ struct Walk<'a> {
 impl Walk<'_> {
     fn condition(&mut self, node: u16, asked: Asked) {
         match self.nodes[usize::from(node)] {
-            Node::Both(a, b) => self.pair(&BOTH, [a, b], asked.truth, asked),
-            Node::Either(a, b) => self.pair(&EITHER, [a, b], !asked.truth, asked),
+            Node::Both(..) => self.pair(&BOTH, node, asked.truth, asked),
+            Node::Either(..) => self.pair(&EITHER, node, !asked.truth, asked),
             Node::Not(a) => self.condition(a, Asked { truth: !asked.truth, ..asked }),
             _ => self.comparison(node, asked),
         }
@@ -114,7 +142,8 @@ impl Walk<'_> {
         narrow(self.nodes, node, wanted, &mut row).then_some(row)
     }
 
-    fn pair(&mut self, of: &Pair, sides: [u16; 2], in_turn: bool, asked: Asked) {
+    fn pair(&mut self, of: &Pair, node: u16, in_turn: bool, asked: Asked) {
+        let sides = self.operands(node);
         if in_turn {
             self.taken.push(of.in_turn);
             return self.in_turn(sides, asked);
@@ -125,6 +154,9 @@ impl Walk<'_> {
             (true, Some(_)) => of.to_a_row,
             (false, Some(_)) => of.of_a_part_to_a_row,
         });
+        if asked.joined.is_none() && self.left(node, !asked.truth, &asked.from).is_none() {
+            self.taken.push(of.nothing);
+        }
         // The opposites are narrowed in turn, and the sides' rows are joined.
         let (truth, narrowed, from) = (!asked.truth, asked.from, asked.narrowed);
         self.in_turn(sides, Asked { truth, narrowed, from, joined: None });
@@ -149,17 +181,14 @@ impl Walk<'_> {
         self.read_again(node, &asked.narrowed, [AGAIN, AGAIN_OTHER]);
         self.read_again(node, &asked.from, [AGAIN_FROM, AGAIN_FROM_OTHER]);
         let left = self.left(node, !asked.truth, &asked.from);
-        let Some(before) = asked.joined else {
-            let name = if left.is_some() { TO_NOTHING } else { NONE_TO_NOTHING };
-            return self.taken.push(name);
-        };
-        self.taken.push(self.sides(node));
+        let to = if asked.joined.is_some() { &TO_A_ROW } else { &TO_NOTHING };
+        self.taken.push(self.sides(node, to));
         self.taken.push(match left {
-            Some(_) => TO_A_ROW,
-            None if self.has_cuts(node, !asked.truth, &asked.from) => NO_MEET,
-            None => NO_CUT,
+            Some(_) => to.row,
+            None if self.has_cuts(node, !asked.truth, &asked.from) => to.no_meet,
+            None => to.no_cut,
         });
-        if together(asked.joined, left) != Some(before) {
+        if asked.joined.is_some() && together(asked.joined, left) != asked.joined {
             self.taken.push(WIDENS);
         }
     }
@@ -183,13 +212,13 @@ impl Walk<'_> {
         [sides[0], sides[1]]
     }
 
-    fn sides(&self, node: u16) -> &'static str {
+    fn sides(&self, node: u16, to: &Added) -> &'static str {
         match self.operands(node).map(|side| self.nodes[usize::from(side)]) {
-            [Node::Variable(v), Node::Variable(w)] if v == w => SAME,
-            [Node::Variable(_), Node::Variable(_)] => TWO,
-            [Node::Variable(_), _] => LEFT,
-            [_, Node::Variable(_)] => RIGHT,
-            _ => NEITHER,
+            [Node::Variable(v), Node::Variable(w)] if v == w => to.same,
+            [Node::Variable(_), Node::Variable(_)] => to.two,
+            [Node::Variable(_), _] => to.left,
+            [_, Node::Variable(_)] => to.right,
+            _ => to.neither,
         }
     }
 
