@@ -48,9 +48,9 @@ combinedOf true d e = bothOf d e
 combinedOf false d e = eitherOf d e
 
 -- ---- what is known of an array that is lent
--- where it is told so, its words are those of the row that is read
+-- where it is told so, its words are those of another: of the row that is read, or of the one from which the opposite starts
 abbrev pub CopyIf : Bool → List ℤ → List ℤ → Type 0
-CopyIf told lent row = told ≡ true → lent ≡ row
+CopyIf told lent other = told ≡ true → lent ≡ other
 
 -- where it is told so, x and y are the intervals of the nodes a and b on it
 abbrev pub KnownIf : Bool → List ℤ → ℕ → ℕ → Interval → Interval → List ℤ → Type 0
