@@ -1,8 +1,8 @@
 -- Lists of alarms: what a list made of two lists, or of an operation's flags, lists; that all alarms are of kind 1 or 2; and that the marks of a
 -- list of such alarms are that set of pairs.
 -- Assumes nothing.
-use Prim.Native.Nat.{ℕ, _<_, _≤_}
-use mathlib.Core.Path.{_≡_, refl, sym, _∙_}
+use Prim.Native.Nat.{ℕ, zero, suc, _<_, _≤_}
+use mathlib.Core.Path.{_≡_, refl, sym, ap, _∙_}
 use mathlib.Core.Bool.{Bool, true, false, _&&_, _||_, or-true, or-false, or-assoc}
 use mathlib.Core.List.{List, [], _∷_, _++_}
 use mathlib.Core.Logic.{inl, inr}
@@ -91,6 +91,33 @@ pub marked-append : (marks : List ℕ) (l m : List Alarm) → markedOf marks (l 
 unfolding markedOf
 marked-append marks [] m = refl
 marked-append marks (a ∷ l) m = marked-append (set marks (placeOf (a .node) (a .kind)) 1) l m
+
+set-comm : (l : List ℕ) (i j a : ℕ) → set (set l i a) j a ≡ set (set l j a) i a
+set-comm [] i j a = refl
+set-comm (x ∷ l) zero zero a = refl
+set-comm (x ∷ l) zero (suc j) a = refl
+set-comm (x ∷ l) (suc i) zero a = refl
+set-comm (x ∷ l) (suc i) (suc j) a = ap (λ (m : List ℕ). x ∷ m) (set-comm l i j a)
+
+-- one mark, before others or after them
+marked-after : (marks : List ℕ) (i : ℕ) (l : List Alarm) → markedOf (set marks i 1) l ≡ set (markedOf marks l) i 1
+unfolding markedOf
+marked-after marks i [] = refl
+marked-after marks i (a ∷ l) =
+    ap (λ (m : List ℕ). markedOf m l) (set-comm marks i (placeOf (a .node) (a .kind)) 1) ∙ marked-after (set marks (placeOf (a .node) (a .kind)) 1) i l
+
+marked-comm : (marks : List ℕ) (l m : List Alarm) → markedOf (markedOf marks l) m ≡ markedOf (markedOf marks m) l
+unfolding markedOf
+marked-comm marks [] m = refl
+marked-comm marks (a ∷ l) m =
+    let i = placeOf (a .node) (a .kind) in
+    marked-comm (set marks i 1) l m ∙ ap (λ (n : List ℕ). markedOf n l) (marked-after marks i m)
+
+-- the last two of three lists are marked in either order
+pub marked-swap : (marks : List ℕ) (l m n : List Alarm) → markedOf marks (l ++ (m ++ n)) ≡ markedOf marks (l ++ (n ++ m))
+marked-swap marks l m n =
+    let both : (m n : List Alarm) → markedOf marks (l ++ (m ++ n)) ≡ markedOf (markedOf (markedOf marks l) m) n = λ m n. marked-append marks l (m ++ n) ∙ marked-append _ m n in
+    both m n ∙ marked-comm (markedOf marks l) m n ∙ sym (both n m)
 
 kind-bounds : (k : ℕ) → IsKind k → (1 ≤ k) × (k ≤ 2)
 kind-bounds k (inl e) = (omega arith, omega arith)

@@ -8,6 +8,8 @@ use crate::Said;
 use crate::Split;
 use crate::alarms::mark_told;
 use crate::narrow::add_cuts;
+use crate::narrow::bare;
+use crate::narrow::other_if;
 use crate::narrow::put_cuts;
 use crate::narrow::variable_or;
 use crate::rows::clear_unless;
@@ -71,7 +73,8 @@ pub fn value<'a, 'b, 'c>(nodes: &'a [i32], n: usize, row: &'b Row, marks: &'c mu
     }
 }
 
-// A choice by the condition node c. A comparison cuts at most two intervals, so that its branches need a row only where they are taken.
+// A choice by the condition node c. The 'not' around it only turn it. A comparison cuts at most two intervals, so that its branches need a row only where
+// they are taken.
 fn choose<'a, 'b, 'c>(
     nodes: &'a [i32],
     c: usize,
@@ -83,10 +86,13 @@ fn choose<'a, 'b, 'c>(
     ensures { λ r. ⌜ r ≡ valueOf (choice 0 (condAt (now (nodes .entry)) c) (arithAt (now (nodes .entry)) a) (arithAt (now (nodes .entry)) b)) (rowIn (now (row .entry))) ⌝ }
     ensures { λ r. ⌜ now (marks .exit) ≡ markedOf (now (marks .entry)) (alarmsOf (choice 0 (condAt (now (nodes .entry)) c) (arithAt (now (nodes .entry)) a) (arithAt (now (nodes .entry)) b)) (rowIn (now (row .entry)))) ⌝ }
 {
-    let shape = shape_at(nodes, c);
+    let under = bare(nodes, c);
+    let then = other_if(under.turned, a, b);
+    let other = other_if(under.turned, b, a);
+    let shape = shape_at(nodes, under.node);
     match shape {
-        Shape::Compare(k, x, y) => choose_by(nodes, k, x, y, a, b, row, marks),
-        _ => choose_split(nodes, c, a, b, row, marks),
+        Shape::Compare(k, x, y) => choose_by(nodes, k, x, y, then, other, row, marks),
+        _ => choose_split(nodes, under.node, then, other, row, marks),
     }
 }
 

@@ -10,9 +10,10 @@ use interval::Interval;
 use interval::lattice::meet;
 use table::Shape;
 use table::decode::shape_at;
+use table::formed::kind_at;
 ghost use mathlib.Core.Path.{_≡_};
-ghost use mathlib.Core.Bool.{not};
-ghost use Prim.Native.Nat.{_<_};
+ghost use mathlib.Core.Bool.{not, cond};
+ghost use Prim.Native.Nat.{_<_, _≤_};
 ghost use Rattle.table.specs.Tree.{arithAt, condAt};
 ghost use Rattle.analysis.specs.Rows.{maybeBy, joinRowsOf};
 ghost use Rattle.analysis.specs.Arrays.{rowIn, CopyIf};
@@ -30,11 +31,18 @@ pub fn variable_or(nodes: &[i32], n: usize, past: usize) -> usize
     }
 }
 
-// The condition under the 'not' at the node n, if there are any, and whether they turn it.
+// The condition under the 'not' at the node n, if there are any, and whether they turn it. Few are, which their kind tells sooner than their shape.
 pub fn bare(nodes: &[i32], n: usize) -> Bare
     ensures { λ r. ⌜ condAt (now (nodes .entry)) (r .node) ≡ bareOf (condAt (now (nodes .entry)) n) ⌝ }
     ensures { λ r. ⌜ r .turned ≡ turnedOf (condAt (now (nodes .entry)) n) ⌝ }
+    ensures { λ r. ⌜ r .node ≤ n ⌝ }
 {
+    if kind_at(nodes, n) != 22 {
+        return Bare {
+            node: n,
+            turned: false,
+        };
+    }
     let shape = shape_at(nodes, n);
     match shape {
         Shape::Not(a) => {
@@ -49,6 +57,13 @@ pub fn bare(nodes: &[i32], n: usize) -> Bare
             turned: false,
         },
     }
+}
+
+// Of two that a condition picks from: the one, or the other if it is turned.
+pub fn other_if(turned: bool, one: usize, other: usize) -> usize
+    ensures { λ r. ⌜ r ≡ cond turned other one ⌝ }
+{
+    if turned { other } else { one }
 }
 
 // The row with the cuts u of the variables v and w.

@@ -156,3 +156,23 @@ pub join-mono : (r r′ s s′ : Interval) → r ⊑ r′ → s ⊑ s′ → joi
 join-mono r r′ s s′ h k = join-within r s (joinOf r′ s′)
     (holds-within r (joinOf r′ s′) (λ z p. join-contains-left r′ s′ z (within-holds r r′ h z p)))
     (holds-within s (joinOf r′ s′) (λ z p. join-contains-right r′ s′ z (within-holds s s′ k z p)))
+
+-- ---- the order in which two are joined
+min-comm : (a b : ℤ) → minZ a b ≡ minZ b a
+min-comm a b = ≤-antisym (min-above (min-right a b) (min-left a b)) (min-above (min-right b a) (min-left b a))
+
+max-comm : (a b : ℤ) → maxZ a b ≡ maxZ b a
+max-comm a b = ≤-antisym (max-below (max-right b a) (max-left b a)) (max-below (max-right a b) (max-left a b))
+
+pub join-comm : (r s : Interval) → joinOf r s ≡ joinOf s r
+unfolding joinOf onEnds
+join-comm None None = refl
+join-comm None (Between c d) = refl
+join-comm (Between a b) None = refl
+join-comm (Between a b) (Between c d) = rw (min-comm a c, max-comm b d) (by (leZ a b) (leZ c d) _ _ _)
+  where
+    by : (p q : Bool) (u v w : Interval) → cond p (cond q u v) (cond q w None) ≡ cond q (cond p u w) (cond p v None)
+    by true true u v w = refl
+    by true false u v w = refl
+    by false true u v w = refl
+    by false false u v w = refl

@@ -33,7 +33,7 @@ use Rattle.analysis.specs.Analysis.{valueOf, condAlarmsOf, narrowOf}
 use Rattle.analysis.specs.Cuts.{variableOr, metIf, cutRowOf}
 use Rattle.analysis.specs.Arrays.{isSome, leftOf}
 use Rattle.analysis.specs.Bare.{bareOf, turnedOf}
-use Rattle.analysis.proofs.BareLaws.{narrow-bare, alarms-bare}
+use Rattle.analysis.proofs.BareLaws.{narrow-bare, alarms-bare, Bared}
 use Rattle.analysis.proofs.CutLaws.{narrow-cuts, cut-written, cut-first-none}
 use Rattle.analysis.proofs.RowCodeLaws.{left-again}
 use Rattle.rules.specs.declared.Fits.{Fits}
@@ -66,11 +66,6 @@ and-turned false false = refl
 
 all-turned : (f : Outcome → Bool) (l m : List Outcome) → allOutcomes f (l ++ m) ≡ allOutcomes f (m ++ l)
 all-turned f l m = all-append f l m ∙ and-turned (allOutcomes f l) (allOutcomes f m) ∙ sym (all-append f m l)
-
--- one of two places at most m
-pub at-most : (b : Bool) (y n m : ℕ) {q : ℕ} → q ≡ cond b n y → y ≤ m → n ≤ m → q ≤ m
-at-most true y n m e h k = rw e k
-at-most false y n m e h k = rw e h
 
 module _ (t w : List ℤ) where
   -- ---- row k, as the code reads it, with the number of variables n
@@ -214,12 +209,12 @@ module _ (t w : List ℤ) where
 
     -- by the node b of the condition under the 'not' around c, which turn it if q
     pub test-bare : (c y n : ℕ) (m : List ℕ) (b : ℕ) {nodes : List ℤ} {q : Bool} {i j : ℕ} {m′ : List ℕ} {o : Fits} → nodes ≡ nodesOf t
-        → (condAt nodes b ≡ bareOf (condAt nodes c)) × (q ≡ turnedOf (condAt nodes c)) → i ≡ cond q n y → j ≡ cond q y n
+        → Bared nodes c b q → i ≡ cond q n y → j ≡ cond q y n
         → (o ≡ testedOf t w (condAt nodes b) i j s r) × (m′ ≡ markedOf m (condAlarmsOf (condAt nodes b) (ownOf r)))
         → (o ≡ fitsBy t w (Test c y n) p s r) × (m′ ≡ markedOf m (alarmsBy t (Test c y n) r))
     unfolding alarmsBy
     test-bare c y n m b {nodes} e h first second f = (
-      test-fits c y n e (rw (h .0, first, second, h .1) at (f .0) ∙ bare-tested (condAt nodes c) y n s r),
+      test-fits c y n e (rw (h .0, first, second, h .1 .0) at (f .0) ∙ bare-tested (condAt nodes c) y n s r),
       rw (← e, alarms-bare (condAt nodes c) (ownOf r), ← h .0) (f .1),
     )
 

@@ -17,6 +17,7 @@ use analysis::evaluate::sides;
 use analysis::evaluate::value_on;
 use analysis::narrow::bare;
 use analysis::narrow::met_if;
+use analysis::narrow::other_if;
 use analysis::narrow::variable_or;
 use analysis::rows::high_ends;
 use analysis::rows::low_ends;
@@ -32,7 +33,7 @@ use table::decode::shape_at;
 use table::layout::task_of;
 use words::number_at;
 ghost use mathlib.Core.Path.{_≡_};
-ghost use mathlib.Core.Bool.{true, cond, _&&_};
+ghost use mathlib.Core.Bool.{true, _&&_};
 ghost use Prim.Native.Nat.{_<_, _≤_};
 ghost use Rattle.table.specs.Layout.{sizesOf, pointsOf, nodesOf};
 ghost use Rattle.table.specs.Decode.{pointOf};
@@ -262,13 +263,6 @@ fn split_fits<'a, 'b>(
     both_sides(taken, other)
 }
 
-// Where a test goes on: at y, or at n if it is turned.
-fn goes_on(turned: bool, y: usize, n: usize) -> usize
-    ensures { λ r. ⌜ r ≡ cond turned n y ⌝ }
-{
-    if turned { n } else { y }
-}
-
 // A test of the condition c, going on at y or at n. The 'not' around it only turn it.
 fn test_fits<'a, 'b>(
     t: &'a [i32],
@@ -293,8 +287,8 @@ fn test_fits<'a, 'b>(
     ensures { λ r. ⌜ now (marks .exit) ≡ markedOf (now (marks .entry)) (alarmsBy (now (t .entry)) (Test c y n) (rowOf (now (lows .entry)) (now (highs .entry)))) ⌝ }
 {
     let under = bare(nodes, c);
-    let yes = goes_on(under.turned, y, n);
-    let no = goes_on(under.turned, n, y);
+    let yes = other_if(under.turned, y, n);
+    let no = other_if(under.turned, n, y);
     let shape = shape_at(nodes, under.node);
     match shape {
         Shape::Compare(k, a, b) => compared_fits(

@@ -49,7 +49,7 @@ pub(crate) fn point_fields(k: usize) -> Fields
 }
 
 // The kind of the node or point n.
-fn kind_at(ws: &[i32], n: usize) -> usize
+pub fn kind_at(ws: &[i32], n: usize) -> usize
     ensures { λ r. ⌜ r ≡ kindOf (now (ws .entry)) n ⌝ }
 {
     let f = four(ws, n);

@@ -3,7 +3,7 @@ ghost use Rattle.table.specs.Laws.{Laws};
 ghost use Rattle.table.specs.Examples.{Starred};
 
 pub mod decode;
-mod formed;
+pub mod formed;
 pub mod layout;
 mod uses;
 pub mod validate;

@@ -12,6 +12,7 @@ use Rattle.words.proofs.Bools.{clash}
 use Rattle.words.proofs.Signed.{read-back}
 use Rattle.table.specs.Tree.{arithBy}
 use Rattle.table.proofs.TreeLaws.{children-of}
+use Rattle.analysis.proofs.BareLaws.{picked-most, bare-choice}
 use Rattle.analysis.proofs.WalkLaws.{branch-taken, branch-left-out, constant-valued, input-valued, variable-valued, negation-valued, binary-valued, choice-valued, chosen, cut-left-out, cut-taken, chosen-by, choice-by, no-value, sides-of, in-turn-splits, turned, turned-copy, turned-joined, turned-alone, joined-to, cuts-known, cut-leaves, one-slot, compare-splits, both-node-splits, either-node-splits, not-splits, no-splits, copy-known}
 use Rattle.analysis.specs.Rows.{joinRowsOf}
 use Rattle.analysis.specs.Arrays.{rowIn}
@@ -65,6 +66,8 @@ use Rattle.analysis.proofs.evaluate.combine.Reads as combine-reads
 use Rattle.analysis.proofs.evaluate.no_condition.Reads as no-condition-reads
 use Rattle.analysis.proofs.evaluate.opposed.Reads as opposed-reads
 use Rattle.analysis.proofs.narrow.add_cuts.Reads as add-cuts-reads
+use Rattle.analysis.proofs.narrow.bare.Reads as bare-reads
+use Rattle.analysis.proofs.narrow.other_if.Reads as other-if-reads
 use Rattle.analysis.proofs.narrow.put_cuts.Reads as put-cuts-reads
 use Rattle.analysis.proofs.narrow.variable_or.Reads as variable-or-reads
 use Rattle.analysis.proofs.rows.copy_unless.Reads as copy-unless-reads
@@ -206,7 +209,7 @@ abbrev branch-calls : ℕ → branch-lts.Claims
 branch-calls t = (value-below t, value.Post)
 
 abbrev choose-calls : ℕ → choose-lts.Claims
-choose-calls t = (shape-at-reads.Asked, shape-at-reads.Learnt, choose-by-below t, choose-by.Post, choose-split-below t, choose-split.Post)
+choose-calls t = (bare-reads.Asked, bare-reads.Learnt, other-if-reads.Asked, other-if-reads.Learnt, shape-at-reads.Asked, shape-at-reads.Learnt, choose-by-below t, choose-by.Post, choose-split-below t, choose-split.Post)
 
 abbrev choose-by-calls : ℕ → choose-by-lts.Claims
 choose-by-calls t = (value-below t, value.Post, compare-reads.Asked, compare-reads.Learnt, variable-or-reads.Asked, variable-or-reads.Learnt, cuts-reads.Asked, cuts-reads.Learnt, cut-branch-below t, cut-branch.Post, join-reads.Asked, join-reads.Learnt)
@@ -266,16 +269,40 @@ unfolding arithBy
     (λ c. branch-left-out _ _ _ _ _ (c .if1 .left)))
     (λ t. choose-lts.spec (choose-calls t) (choose-at t) choose.Post
     (λ c κs. search needs)
+    (λ c κs. search needs)
+    (λ c κs. search needs)
+    (λ c κs. search needs)
     (λ c. search needs)
-    (λ c κs. let arm = c .before .before in let below = children-of _ _ (sym (arm .before .before .shape-at .ensures) ∙ arm .shape .given .1) in omega arith)
-    (λ c κs. omega arith)
+    (λ c κs.
+    let arm = c .before .before in
+    let second = arm .before .before .before in
+    let first = second .before in
+    let under = first .before in
+    let below = children-of _ _ (sym (arm .before .before .shape-at .ensures) ∙ arm .shape .given .1) in
+    let node = under .bare .ensures .1 .1 in
+    let most = picked-most (under .bare .result .turned) _ _ (first .other-if .ensures) (second .other-if2 .ensures) in
+    omega arith)
+    (λ c κs.
+    let second = c .before .before .before in
+    let first = second .before in
+    let under = first .before in
+    let node = under .bare .ensures .1 .1 in
+    let most = picked-most (under .bare .result .turned) _ _ (first .other-if .ensures) (second .other-if2 .ensures) in
+    omega arith)
     (λ c. search needs)
     (λ c.
     let chose = c .before .before in
     let arm = chose .before .before .before in
-    choice-by _ _ _ _ _ _ (sym (arm .before .before .shape-at .ensures) ∙ arm .shape .given .1) (chose .choose-by .ensures))
+    let second = arm .before .before .before in
+    let first = second .before in
+    let shape = sym (arm .before .before .shape-at .ensures) ∙ arm .shape .given .1 in
+    bare-choice _ _ _ _ _ _ _ (first .before .bare .ensures) (first .other-if .ensures) (second .other-if2 .ensures) (choice-by _ _ _ _ _ _ shape (chose .choose-by .ensures)))
     (λ c. search needs)
-    (λ c. c .before .before .choose-split .ensures))
+    (λ c.
+    let chose = c .before .before in
+    let second = chose .before .before .before .before in
+    let first = second .before in
+    bare-choice _ _ _ _ _ _ _ (first .before .bare .ensures) (first .other-if .ensures) (second .other-if2 .ensures) (chose .choose-split .ensures)))
     (λ t. choose-by-lts.spec (choose-by-calls t) (choose-by-at t) choose-by.Post
     (λ c κs. omega arith)
     (λ c κs. omega arith)

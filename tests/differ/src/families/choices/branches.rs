@@ -33,13 +33,16 @@ const NO_DECISION: &str = "condition: none";
 const BOTH_TAKEN: &str = "both branches taken";
 const RIGHT_OF_BOTH: &str = "both: right side on a part of the row";
 const RIGHT_OF_EITHER: &str = "either: right side on a part of the row";
+const TURNED: &str = "condition: turned by 'not'";
+const TURNED_BACK: &str = "condition: turned and turned back";
 
 /// All of them.
 pub fn names() -> Vec<&'static str> {
     let of = |branch: Branch| {
         [branch.not_allowed, branch.no_row, branch.taken, branch.interval, branch.alarm]
     };
-    let others = [NO_DECISION, BOTH_TAKEN, RIGHT_OF_BOTH, RIGHT_OF_EITHER];
+    let others =
+        [NO_DECISION, BOTH_TAKEN, RIGHT_OF_BOTH, RIGHT_OF_EITHER, TURNED, TURNED_BACK];
     [&of(THEN)[..], &of(ELSE), &others].concat()
 }
 
@@ -88,7 +91,20 @@ impl Walk<'_> {
         self.node(b, row);
     }
 
+    /// How many 'not' stand around a condition.
+    fn nots(&self, asked: u16) -> usize {
+        match self.nodes[usize::from(asked)] {
+            Node::Not(under) => 1 + self.nots(under),
+            _ => 0,
+        }
+    }
+
     fn choice(&mut self, asked: u16, [then, otherwise]: [u16; 2], row: &Row) {
+        match self.nots(asked) {
+            0 => (),
+            nots if nots % 2 == 1 => self.reached.push(TURNED),
+            _ => self.reached.push(TURNED_BACK),
+        }
         match condition(self.nodes, asked, row, &mut Silent) {
             None => self.reached.push(NO_DECISION),
             Some(truth) => {

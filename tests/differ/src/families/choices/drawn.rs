@@ -72,7 +72,8 @@ impl<'a> Drawing<'a> {
             6..8 => self.apart(),
             8 => both(self.condition(within), self.condition(within)),
             9 => either(self.condition(within), self.condition(within)),
-            10..12 => not(self.condition(within)),
+            10 => not(self.condition(within)),
+            11 => not(not(self.condition(within))),
             _ => self.comparison_of_choice(within),
         }
     }
