@@ -1,4 +1,5 @@
--- A condition leaves of a row what the condition under its 'not' leaves by the truth that they turn it to, and has the same alarms.
+-- A condition leaves of a row what the condition under its 'not' leaves by the truth that they turn it to, and has the same alarms. A choice by it is the
+-- choice by the other, with its branches the other way round if it is turned.
 -- Assumes nothing.
 use Prim.Native.Nat.{ℕ, _<_, _≤_, max}
 use mathlib.Core.Path.{_≡_, refl, ap, _∙_}
@@ -12,7 +13,7 @@ use lib.Dec.{eqb}
 use lib.IntN.{ℤ}
 use Rattle.interval.specs.Compare.{oppositeOf}
 use Rattle.interval.specs.declared.Interval.{Interval}
-use Rattle.interval.proofs.LatticeLaws.{join-comm}
+use Rattle.interval.proofs.Laws.{proved as laws}
 use Rattle.table.specs.declared.Shape.{Shape}
 use Rattle.table.specs.declared.Shape.the-variants.{Constant, Input, Variable, Negation, Binary, Choice, Compare, Both, Either, Not, Bad}
 use Rattle.table.specs.Decode.{pick, kept, shapeBy, shapeFrom, shapeOf}
@@ -68,7 +69,7 @@ module _ (r : Row) (m : List ℕ) {i : Interval} {m′ : List ℕ} where
   not-chosen n c x y h =
       let yes = branchOf (decisionOf c r) true (narrowOf c true r) in
       let no = branchOf (decisionOf c r) false (narrowOf c false r) in
-      (h .0 ∙ join-comm (rangeOn yes (valueOf y)) (rangeOn no (valueOf x)), h .1 ∙ marked-swap m (condAlarmsOf c r) (alarmsOn yes (alarmsOf y)) (alarmsOn no (alarmsOf x)))
+      (h .0 ∙ laws .lattice .join-comm (rangeOn yes (valueOf y)) (rangeOn no (valueOf x)), h .1 ∙ marked-swap m (condAlarmsOf c r) (alarmsOn yes (alarmsOf y)) (alarmsOn no (alarmsOf x)))
 
   pub bare-chosen : (c : Cond) (x y : Arith) → Chosen r m i m′ (bareOf c) (cond (turnedOf c) y x) (cond (turnedOf c) x y) → Chosen r m i m′ c x y
   unfolding bareOf turnedOf
@@ -88,58 +89,59 @@ pub picked-most : (t : Bool) (x y : ℕ) {v w : ℕ} → v ≡ cond t y x → w 
 picked-most true x y p q = rw (p, q) (omega arith)
 picked-most false x y p q = rw (p, q) (omega arith)
 
--- a shape whose condition has no 'not' around it: every one but 'not' itself
-module _ (a : ℕ → Arith) (c : ℕ → Cond) (n : ℕ) where
-  abbrev NoNot : Shape → Type 0
-  NoNot s = (condBy a c n s ≡ bareOf (condBy a c n s)) × (false ≡ turnedOf (condBy a c n s))
-
-  pick-no-not : (t : Bool) (s u : Shape) → NoNot s → NoNot u → NoNot (pick t s u)
-  pick-no-not true s u h k = h
-  pick-no-not false s u h k = k
-
-  kept-no-not : (t : Bool) (s : Shape) → NoNot s → NoNot (kept t s)
-  unfolding kept condBy bareOf turnedOf
-  kept-no-not true s h = h
-  kept-no-not false s h = (refl, refl)
-
-  kind-no-not : (k : ℕ) (x y : ℤ) (d e f : ℕ) → eqb k 22 ≡ false → NoNot (shapeBy n k x y d e f)
-  unfolding shapeBy condBy bareOf turnedOf
-  kind-no-not k x y d e f h =
-      rw h
-      (pick-no-not (eqb k 0) _ _ (refl, refl)
-      (pick-no-not (eqb k 1) _ _ (refl, refl)
-      (pick-no-not (eqb k 2) _ _ (refl, refl)
-      (pick-no-not (eqb k 3) _ _ (kept-no-not _ _ (refl, refl))
-      (pick-no-not (eqb k 4) _ _ (kept-no-not _ _ (refl, refl))
-      (pick-no-not (eqb k 5) _ _ (kept-no-not _ _ (refl, refl))
-      (pick-no-not (eqb k 6) _ _ (kept-no-not _ _ (refl, refl))
-      (pick-no-not (eqb k 7) _ _ (kept-no-not _ _ (refl, refl))
-      (pick-no-not (eqb k 8) _ _ (kept-no-not _ _ (refl, refl))
-      (pick-no-not (eqb k 9) _ _ (kept-no-not _ _ (refl, refl))
-      (pick-no-not (eqb k 16) _ _ (kept-no-not _ _ (refl, refl))
-      (pick-no-not (eqb k 17) _ _ (kept-no-not _ _ (refl, refl))
-      (pick-no-not (eqb k 18) _ _ (kept-no-not _ _ (refl, refl))
-      (pick-no-not (eqb k 19) _ _ (kept-no-not _ _ (refl, refl))
-      (pick-no-not (eqb k 20) _ _ (kept-no-not _ _ (refl, refl))
-      (pick-no-not (eqb k 21) _ _ (kept-no-not _ _ (refl, refl)) (refl, refl)))))))))))))))))
-
 -- the tags of the shapes that are no 'not'
 abbrev noNot : List ℕ
 noNot = 0 ∷ 1 ∷ 2 ∷ 3 ∷ 4 ∷ 5 ∷ 6 ∷ 7 ∷ 8 ∷ 10 ∷ []
 
-no-not : (a : ℕ → Arith) (c : ℕ → Cond) (n : ℕ) (s : Shape) → OneOf noNot (tagOf the-type s) → (condBy a c n s ≡ bareOf (condBy a c n s)) × (false ≡ turnedOf (condBy a c n s))
-unfolding condBy bareOf turnedOf
-no-not a c n (Constant z) h = (refl, refl)
-no-not a c n (Input l k) h = (refl, refl)
-no-not a c n (Variable v) h = (refl, refl)
-no-not a c n (Negation x) h = (refl, refl)
-no-not a c n (Binary op x y) h = (refl, refl)
-no-not a c n (Choice x y z) h = (refl, refl)
-no-not a c n (Compare k x y) h = (refl, refl)
-no-not a c n (Both x y) h = (refl, refl)
-no-not a c n (Either x y) h = (refl, refl)
-no-not a c n (Not x) h = absurd (miss noNot 9 tt h)
-no-not a c n Bad h = (refl, refl)
+-- a shape whose condition has no 'not' around it: every one but 'not' itself
+module _ (a : ℕ → Arith) (c : ℕ → Cond) (n : ℕ) where
+  abbrev Plain : Shape → Type 0
+  Plain s = (condBy a c n s ≡ bareOf (condBy a c n s)) × (false ≡ turnedOf (condBy a c n s))
+
+  no-not : (s : Shape) → OneOf noNot (tagOf the-type s) → Plain s
+  unfolding condBy bareOf turnedOf
+  no-not (Constant z) h = (refl, refl)
+  no-not (Input l k) h = (refl, refl)
+  no-not (Variable v) h = (refl, refl)
+  no-not (Negation x) h = (refl, refl)
+  no-not (Binary op x y) h = (refl, refl)
+  no-not (Choice x y z) h = (refl, refl)
+  no-not (Compare k x y) h = (refl, refl)
+  no-not (Both x y) h = (refl, refl)
+  no-not (Either x y) h = (refl, refl)
+  no-not (Not x) h = absurd (miss noNot 9 tt h)
+  no-not Bad h = (refl, refl)
+
+  -- by the kind alone
+  pick-plain : (t : Bool) (s u : Shape) → Plain s → Plain u → Plain (pick t s u)
+  pick-plain true s u h k = h
+  pick-plain false s u h k = k
+
+  kept-plain : (t : Bool) (s : Shape) → Plain s → Plain (kept t s)
+  unfolding kept condBy bareOf turnedOf
+  kept-plain true s h = h
+  kept-plain false s h = (refl, refl)
+
+  kind-plain : (k : ℕ) (x y : ℤ) (d e f : ℕ) → eqb k 22 ≡ false → Plain (shapeBy n k x y d e f)
+  unfolding shapeBy condBy bareOf turnedOf
+  kind-plain k x y d e f h =
+      rw h
+      (pick-plain (eqb k 0) _ _ (refl, refl)
+      (pick-plain (eqb k 1) _ _ (refl, refl)
+      (pick-plain (eqb k 2) _ _ (refl, refl)
+      (pick-plain (eqb k 3) _ _ (kept-plain _ _ (refl, refl))
+      (pick-plain (eqb k 4) _ _ (kept-plain _ _ (refl, refl))
+      (pick-plain (eqb k 5) _ _ (kept-plain _ _ (refl, refl))
+      (pick-plain (eqb k 6) _ _ (kept-plain _ _ (refl, refl))
+      (pick-plain (eqb k 7) _ _ (kept-plain _ _ (refl, refl))
+      (pick-plain (eqb k 8) _ _ (kept-plain _ _ (refl, refl))
+      (pick-plain (eqb k 9) _ _ (kept-plain _ _ (refl, refl))
+      (pick-plain (eqb k 16) _ _ (kept-plain _ _ (refl, refl))
+      (pick-plain (eqb k 17) _ _ (kept-plain _ _ (refl, refl))
+      (pick-plain (eqb k 18) _ _ (kept-plain _ _ (refl, refl))
+      (pick-plain (eqb k 19) _ _ (kept-plain _ _ (refl, refl))
+      (pick-plain (eqb k 20) _ _ (kept-plain _ _ (refl, refl))
+      (pick-plain (eqb k 21) _ _ (kept-plain _ _ (refl, refl)) (refl, refl)))))))))))))))))
 
 module _ (ns : List ℤ) (n : ℕ) where
   -- the node b is that of the condition at n without its 'not', and t whether they turn it
@@ -148,7 +150,7 @@ module _ (ns : List ℤ) (n : ℕ) where
 
   pub bare-kind : (kindOf ns n ≡ 22 → ⊥) → Bared n false
   unfolding shapeFrom
-  bare-kind h = rw (cond-of ns n refl) (let is = kind-no-not (arithAt ns) (condAt ns) n (kindOf ns n) _ _ _ _ _ (ne-eqb _ 22 h) in (is .0, (is .1, omega arith)))
+  bare-kind h = rw (cond-of ns n refl) (let is = kind-plain (arithAt ns) (condAt ns) n (kindOf ns n) _ _ _ _ _ (ne-eqb _ 22 h) in (is .0, (is .1, omega arith)))
 
   pub bare-here : {s : Shape} → shapeOf ns n ≡ s → OneOf noNot (tagOf the-type s) → Bared n false
   bare-here {s} e h = rw (cond-of ns n e) (let is = no-not (arithAt ns) (condAt ns) n s h in (is .0, (is .1, omega arith)))

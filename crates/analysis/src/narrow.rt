@@ -31,7 +31,7 @@ pub fn variable_or(nodes: &[i32], n: usize, past: usize) -> usize
     }
 }
 
-// The condition under the 'not' at the node n, if there are any, and whether they turn it. Few are, which their kind tells sooner than their shape.
+// The condition under the 'not' at the node n, if there are any, and whether they turn it. Few nodes are a 'not', and the kind tells that sooner than the shape.
 pub fn bare(nodes: &[i32], n: usize) -> Bare
     ensures { λ r. ⌜ condAt (now (nodes .entry)) (r .node) ≡ bareOf (condAt (now (nodes .entry)) n) ⌝ }
     ensures { λ r. ⌜ r .turned ≡ turnedOf (condAt (now (nodes .entry)) n) ⌝ }

@@ -3,7 +3,7 @@
 use lib.IntN.{negℤ}
 use Rattle.interval.specs.Arithmetic.{exact, negateOf, operateOf}
 use Rattle.interval.specs.Laws.{Laws}
-use Rattle.interval.proofs.LatticeLaws.{meet-contains, meet-within-left, meet-within-right, meet-mono, join-contains-left, join-contains-right, join-within, join-mono, within-holds, holds-within, within-refl, within-trans}
+use Rattle.interval.proofs.LatticeLaws.{meet-contains, meet-within-left, meet-within-right, meet-mono, join-contains-left, join-contains-right, join-within, join-comm, join-mono, within-holds, holds-within, within-refl, within-trans}
 use Rattle.interval.proofs.ArithmeticLaws.{tells-some, negate-tells, negate-mono, operate-tells, operate-zero, operate-zero-only, operate-overflow-only, remainder-no-overflow, operate-mono}
 use Rattle.interval.proofs.RemainderLaws.{largest-bounds, largest-attained}
 use Rattle.interval.proofs.CompareLaws.{compare-allows, both-allows, either-allows, opposite-allows, compare-mono, both-mono, either-mono, opposite-mono}
@@ -41,6 +41,7 @@ proved = record {
     join-contains-left = join-contains-left;
     join-contains-right = join-contains-right;
     join-within = join-within;
+    join-comm = join-comm;
     within-holds = within-holds;
     holds-within = holds-within;
     within-refl = within-refl;

@@ -110,6 +110,7 @@ pub record Lattice : Type 0 where
   pub join-contains-left : (r s : Interval) (z : ℤ) → Holds r z → Holds (joinOf r s) z
   pub join-contains-right : (r s : Interval) (z : ℤ) → Holds s z → Holds (joinOf r s) z
   pub join-within : (r s t : Interval) → r ⊑ t → s ⊑ t → joinOf r s ⊑ t
+  pub join-comm : (r s : Interval) → joinOf r s ≡ joinOf s r
   -- r lies within s exactly when s holds every number of r
   pub within-holds : (r s : Interval) → r ⊑ s → (z : ℤ) → Holds r z → Holds s z
   pub holds-within : (r s : Interval) → ((z : ℤ) → Holds r z → Holds s z) → r ⊑ s
