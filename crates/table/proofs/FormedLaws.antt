@@ -1,14 +1,25 @@
--- Laws of what fields must be: the tests of a number that is known by a range, and the fields of a node and a point whose kind is known so.
+-- Laws of what fields must be: the tests of a number that is known by a range, the number of a word by what the code tested of it, and the fields of a
+-- node and a point whose kind is known by a range.
 -- Assumes nothing.
-use Prim.Native.Nat.{ℕ, _+_, _<_, _≤_}
-use mathlib.Core.Path.{_≡_}
-use mathlib.Core.Bool.{true, false}
+use Prim.Native.Nat.{ℕ, suc, _+_, _-_, _<_, _≤_}
+use mathlib.Core.Path.{_≡_, refl}
+use mathlib.Core.Bool.{Bool, true, false}
+use mathlib.Core.List.{List}
 use native.Mathlib.Omega.{arith}
-use borrow.Author.Tests.{ltb-true, leb-true, le-leb, lt-leb, ne-eqb}
+use borrow.Author.Tests.{ltb-true, ltb-false, leb-true, le-leb, lt-leb, ne-eqb}
 use lib.Dec.{eqb, leb, ltb}
-use lib.IntN.{ℤ}
-use Rattle.table.specs.declared.Field.the-variants.{Unused, Mutex, Arithmetic, Condition, Target, Unknown}
-use Rattle.table.specs.Formed.{fieldsOf, nodeFieldsOf, pointFieldsOf}
+use lib.IntN.{ℤ, pos, negsuc}
+use lib.Signed.{mag, ltZ}
+use mir.Syntax.{w32}
+use mir.Val.{sel, toZ, ofZ}
+use Rattle.words.specs.Words.{numberOf}
+use Rattle.words.proofs.Bools.{clash}
+use Rattle.table.specs.Layout.{sizesOf}
+use Rattle.table.specs.Formed.{Unused, Mutex, Arithmetic, Condition, Target, Unknown, Limits, fieldsOf, nodeFieldsOf, pointFieldsOf}
+
+-- ---- what a field may name in a table t: the nodes below a number, and the points of a task
+abbrev pub limitsAt : List ℤ → ℕ → ℕ → Limits
+limitsAt t nodes task = record { variables = sizesOf t .variables; mutexes = sizesOf t .mutexes; nodes = nodes; points = sizesOf t .points; task = task }
 
 -- ---- tests of a number from `low` on, where `low` decides them
 module _ {low k : ℕ} (from : low ≤ k) (m : ℕ) where
@@ -31,6 +42,38 @@ module _ {high k : ℕ} (below : k < high) (m : ℕ) where
 
   pub below-geb : leb high m ≡ true → leb m k ≡ false
   below-geb e = let l = leb-true high m e in lt-leb m k (omega arith)
+
+-- ---- from the tests of a word to its number
+-- an unused field is tested by its bits
+pub zero-bits : (w : ℤ) → mag w < 2147483648 → eqb (ofZ w32 w) 0 ≡ eqb (numberOf w) 0
+unfolding numberOf
+zero-bits (pos n) l = refl
+zero-bits (negsuc n) l = let b : n < 2147483648 = l in ne-eqb (4294967296 - suc n) 0 (λ e. omega arith)
+
+-- a word from `low` on, one that is below `high` too, and one below 0, whose number is past every kind
+pub number-from : (z : ℤ) (low : ℕ) → ltZ z (pos low) ≡ false → low ≤ numberOf z
+unfolding numberOf
+number-from (pos n) low e = ltb-false n low e
+number-from (negsuc n) low e = clash e
+
+pub number-within : (z : ℤ) (low high : ℕ) → ltZ z (pos low) ≡ false → ltZ z (pos high) ≡ true → numberOf z < high
+unfolding numberOf
+number-within (pos n) low high e q = ltb-true n high q
+number-within (negsuc n) low high e q = clash e
+
+pub number-negative : (z : ℤ) {kind : ℕ} → ltZ z (pos 0) ≡ true → kind < 4294967295 → kind < numberOf z
+unfolding numberOf
+number-negative (pos n) e l = absurd (omega (arith, ltb-true n 0 e))
+number-negative (negsuc n) e l = l
+
+-- the bits of a word whose number is m
+pub bits-are : (b m : ℕ) → m < 4294967295 → numberOf (toZ w32 b) ≡ m → b ≡ m
+unfolding numberOf
+bits-are b m l = by (ltb b 2147483648)
+  where
+    by : (s : Bool) → numberOf (sel s (pos b) (negsuc (4294967296 - suc b))) ≡ m → b ≡ m
+    by true e = e
+    by false e = absurd (omega arith)
 
 -- ---- the fields of a kind in a range
 pub binary-fields : (a : ℤ) {k : ℕ} → 4 ≤ k → k < 8 → nodeFieldsOf k a ≡ fieldsOf Arithmetic Arithmetic Unused

@@ -23,10 +23,12 @@ pub part-within : (ws : List ℤ) (from : ℕ) {count most : ℕ} → count ≤ 
 part-within ws from h = simp length-take (omega arith)
 
 -- four words that were read come back from their bits
+abbrev pub back : Four → Four
+back f = record { kind = toZ w32 (ofZ w32 (f .kind)); a = toZ w32 (ofZ w32 (f .a)); b = toZ w32 (ofZ w32 (f .b)); c = toZ w32 (ofZ w32 (f .c)) }
+
 pub read-four :
     {k x y z : ℤ} → mag k < 2147483648 → mag x < 2147483648 → mag y < 2147483648 → mag z < 2147483648 →
-    _≡_ {A = Four} (record { kind = toZ w32 (ofZ w32 k); a = toZ w32 (ofZ w32 x); b = toZ w32 (ofZ w32 y); c = toZ w32 (ofZ w32 z) })
-    (record { kind = k; a = x; b = y; c = z })
+    back (record { kind = k; a = x; b = y; c = z }) ≡ record { kind = k; a = x; b = y; c = z }
 read-four {k} {x} {y} {z} p q r s = simp (read-back {z = k} p, read-back {z = x} q, read-back {z = y} r, read-back {z = z} s)
 
 -- ---- first points

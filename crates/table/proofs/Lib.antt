@@ -4,5 +4,6 @@ pub mod FormedLaws
 pub mod TreeLaws
 pub mod TaskLaws
 pub mod UseLaws
+pub mod WalkLaws
 pub mod PassLaws
 pub mod Laws

@@ -23,24 +23,18 @@ use Rattle.table.specs.declared.Shape.{Shape}
 use Rattle.table.specs.declared.Shape.the-variants.{Binary, Compare, Both, Either}
 use Rattle.table.specs.declared.Point.{Point}
 use Rattle.table.specs.declared.Four.{Four}
-use Rattle.table.specs.declared.Limits.{Limits}
-use Rattle.table.specs.declared.Fields.{Fields}
-use Rattle.table.specs.declared.Field.{Field}
-use Rattle.table.specs.declared.Field.the-variants.{Unused, Any, AtLeast, Variable, Mutex, Arithmetic, Condition, Target, Unknown}
 use Rattle.table.specs.Layout.{sizesOf, lengthOf, sharesOf, pointsOf, nodesOf, fourOf, firstOf, taskOf}
 use Rattle.table.specs.Decode.{pick, kept, operationOf, comparisonOf, shapeBy, shapeFrom, shapeOf, pointBy, pointFrom, pointOf}
-use Rattle.table.specs.Formed.{fieldsOf, nodeFieldsOf, pointFieldsOf, fitsOf, fieldsFitOf}
+use Rattle.table.specs.Formed.{Field, Unused, Any, AtLeast, Variable, Mutex, Arithmetic, Condition, Target, Unknown, Fields, fieldsOf, nodeFieldsOf, pointFieldsOf, fitsOf, fieldsFitOf}
 use Rattle.table.specs.Uses.{refsBelow, nodeRefs, pointRefs, countOf, usesOf, rule6}
 use Rattle.table.specs.Validate.{lowest, highest, sizeOkOf, shareOkOf, rule4, rule5, sizesStage, partsStage, validateOf}
 use Rattle.table.specs.Passes.{Between, ArithmeticBelow, ConditionBelow, SameTask, FormedNode, FormedPoint, Passes}
+use Rattle.table.proofs.FormedLaws.{limitsAt}
 use Rattle.table.proofs.TaskLaws.{share-rise, task-owned, owned-task}
 use Rattle.table.proofs.UseLaws.{count-append, user-count, users-apart}
 
 -- ---- what a field that fits tells, where nodes below `nodes` and points of `task` may be named
 module _ (t : List ℤ) (nodes task : ℕ) where
-  abbrev limits : Limits
-  limits = record { variables = sizesOf t .variables; mutexes = sizesOf t .mutexes; nodes = nodes; points = sizesOf t .points; task = task }
-
   abbrev Told : Field → ℤ → Type 0
   Told Unused w = Unit {0}
   Told Any w = Unit {0}
@@ -52,7 +46,7 @@ module _ (t : List ℤ) (nodes task : ℕ) where
   Told Target w = (numberOf w < sizesOf t .points) × (taskOf t (numberOf w) ≡ task)
   Told Unknown w = ⊥
 
-  fits-told : (f : Field) (w : ℤ) → fitsOf limits t (nodesOf t) f w ≡ true → Told f w
+  fits-told : (f : Field) (w : ℤ) → fitsOf (limitsAt t nodes task) t (nodesOf t) f w ≡ true → Told f w
   unfolding fitsOf
   fits-told Unused w e = tt
   fits-told Any w e = tt
@@ -67,10 +61,10 @@ module _ (t : List ℤ) (nodes task : ℕ) where
   abbrev AllTold : Fields → Four → Type 0
   AllTold f x = Told (f .a) (x .a) × Told (f .b) (x .b) × Told (f .c) (x .c)
 
-  fields-told : (f : Fields) (x : Four) → fieldsFitOf limits t (nodesOf t) f x ≡ true → AllTold f x
+  fields-told : (f : Fields) (x : Four) → fieldsFitOf (limitsAt t nodes task) t (nodesOf t) f x ≡ true → AllTold f x
   fields-told f x e =
-      let r = and-right (fitsOf limits t (nodesOf t) (f .a) (x .a)) _ e in
-      (fits-told _ _ (and-left _ _ e), fits-told _ _ (and-left _ _ r), fits-told _ _ (and-right (fitsOf limits t (nodesOf t) (f .b) (x .b)) _ r))
+      let r = and-right (fitsOf (limitsAt t nodes task) t (nodesOf t) (f .a) (x .a)) _ e in
+      (fits-told _ _ (and-left _ _ e), fits-told _ _ (and-left _ _ r), fits-told _ _ (and-right (fitsOf (limitsAt t nodes task) t (nodesOf t) (f .b) (x .b)) _ r))
 
 -- ---- fields and shape, or fields and point, are picked by the same kinds
 -- a number that isn't m is past m where it is from m on

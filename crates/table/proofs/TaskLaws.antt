@@ -1,22 +1,23 @@
 -- First points rise, and the task that `taskOf` gives is the one that owns the point.
 -- Assumes nothing.
 use Prim.Native.Nat.{ℕ, zero, suc, _-_, _<_, _≤_, zero-le}
-use mathlib.Core.Path.{_≡_, refl, sym}
-use mathlib.Core.Bool.{Bool, true, false, cond}
+use mathlib.Core.Path.{_≡_, refl, sym, _∙_}
+use mathlib.Core.Bool.{Bool, true, false, cond, _&&_}
 use mathlib.Core.List.{List}
 use mathlib.Core.Logic.{⊎-elim}
 use native.Mathlib.Nat.{eq-or-lt-of-le, le-of-suc-le-suc}
 use native.Mathlib.Omega.{arith}
-use borrow.Author.Tests.{leb-true, leb-false, le-leb, lt-leb}
-use lib.Dec.{leb}
+use borrow.Author.Tests.{leb-true, leb-false, ltb-true, eqb-true, le-leb, lt-leb, lt-ltb, eq-eqb}
+use lib.Dec.{eqb, leb, ltb}
 use lib.IntN.{ℤ, pos, negsuc}
 use lib.ListN.{length}
 use lib.Signed.{leZ}
 use Rattle.words.specs.Words.{wordOf, numberOf}
-use Rattle.words.proofs.Bools.{clash}
+use Rattle.words.proofs.Bools.{clash, and-true, and-left, and-right}
 use Rattle.words.proofs.PartLaws.{part-length}
 use Rattle.table.specs.Layout.{sizesOf, lengthOf, sharesOf, firstIn, laterOf, lastIn, firstOf, taskOf}
 use Rattle.table.specs.Validate.{shareOkOf}
+use Rattle.table.specs.Walk.{Whole, OneTask}
 use Rattle.table.specs.Passes.{Owned}
 
 -- ---- first points
@@ -82,3 +83,36 @@ module _ (t : List ℤ) (some : 1 ≤ sizesOf t .tasks) (whole : length t ≡ le
   pub owned-task : (u p : ℕ) → u < sizesOf t .tasks → firstOf t u ≤ p → p < firstOf t (suc u) → taskOf t p ≡ u
   unfolding firstOf taskOf
   owned-task u p l f h = owns-last (sharesOf t) p (length (sharesOf t) - 1) u (record { upto = omega (arith, last-task); first = f; last = h })
+
+-- ---- the points of one task are those that `taskOf` gives it
+same-test : (a b : Bool) → (a ≡ true → b ≡ true) → (b ≡ true → a ≡ true) → a ≡ b
+same-test true b f g = sym (f refl)
+same-test false true f g = g refl
+same-test false false f g = refl
+
+module _ (t : List ℤ) (h : Whole t) (sum : firstOf t (sizesOf t .tasks) ≡ sizesOf t .points) {first last : ℕ} (o : OneTask t first last) where
+  task-is : (q : ℕ) → first ≤ q → q < last → taskOf t q ≡ o .task
+  task-is q l m = owned-task t (h .some) (h .whole) (o .task) q (o .there) (rw (← o .from) l) (rw (← o .to) m)
+
+  pub task-rise : first ≤ last
+  unfolding firstOf
+  task-rise = rw (o .from, o .to) (first-le (sharesOf t) (o .task) (suc (o .task)) (omega arith))
+
+  pub last-within : last ≤ sizesOf t .points
+  unfolding firstOf
+  last-within = rw (o .to, ← sum) (first-le (sharesOf t) (suc (o .task)) (sizesOf t .tasks) (o .there))
+
+  pub task-targets : {p : ℕ} → first ≤ p → p < last → (q : ℕ) → (leb first q && ltb q last) ≡ (ltb q (sizesOf t .points) && eqb (taskOf t q) (taskOf t p))
+  task-targets {p} l m q = same-test _ _ inner outer
+    where
+      inner : leb first q && ltb q last ≡ true → ltb q (sizesOf t .points) && eqb (taskOf t q) (taskOf t p) ≡ true
+      inner e =
+          let from = leb-true first q (and-left _ _ e) in
+          let to = ltb-true q last (and-right (leb first q) _ e) in
+          and-true (lt-ltb q _ (omega (arith, last-within))) (eq-eqb _ _ (task-is q from to ∙ sym (task-is p l m)))
+
+      outer : ltb q (sizesOf t .points) && eqb (taskOf t q) (taskOf t p) ≡ true → leb first q && ltb q last ≡ true
+      outer e =
+          let owned = task-owned t (h .some) (h .whole) sum q (ltb-true q _ (and-left _ _ e)) in
+          let same = eqb-true (taskOf t q) (taskOf t p) (and-right (ltb q (sizesOf t .points)) _ e) ∙ task-is p l m in
+          and-true (le-leb first q (rw (o .from, ← same) (owned .first))) (lt-ltb q last (rw (o .to, ← same) (owned .last)))

@@ -1,39 +1,21 @@
 -- How often a node is used: what a count of one says of the users, and that the counts that stop at two tell a count of one.
--- A loop that counts the uses of the first `count` users has the invariant `Used f before count n counts`, n the loop's counter, and the measure count - n:
---     use-none     where the loop begins
---     use-more     one user more: the invariant at n + 1
---     use-all      n has come to count: the counts after the loop; use-same: as many as before it
--- Other proofs of code use `node-used` and `used-back` for a field, `uses-three` for three, `node-refs` and `point-refs` for the four words that were read,
--- and `uses-first` for refusal 6.
 -- Assumes nothing.
-use Prim.Native.Nat.{ℕ, zero, suc, _+_, _<_, _≤_, min, zero-le}
-use mathlib.Core.Path.{_≡_, refl, sym, ap, _∙_}
+use Prim.Native.Nat.{ℕ, zero, suc, _+_, _<_, _≤_, min}
+use mathlib.Core.Path.{_≡_, refl, sym, _∙_}
 use mathlib.Core.Bool.{Bool, true, false, cond}
 use mathlib.Core.List.{List, [], _∷_, _++_}
 use mathlib.Core.Logic.{⊎-elim}
-use native.Mathlib.Nat.{zero-add, eq-or-lt-of-le, le-of-suc-le-suc, le-antisymm}
-use native.Mathlib.Numerals.{add-one}
+use native.Mathlib.Nat.{zero-add, eq-or-lt-of-le, le-of-suc-le-suc}
 use native.Mathlib.Omega.{arith}
 use borrow.Author.Tests.{ltb-true, ltb-false, eqb-true, eqb-false, eq-eqb, ne-eqb}
 use lib.Dec.{eqb, ltb}
 use lib.IntN.{ℤ}
 use lib.ListN.{length, getD, set, replicate, length-set, length-replicate, getD-replicate}
 use lib.Seq.{getD-set-same, getD-set-other}
-use lib.Signed.{mag}
-use mir.Syntax.{w32}
-use mir.Val.{toZ, ofZ}
 use Rattle.words.specs.declared.Found.{Found}
-use Rattle.words.specs.Words.{numberOf}
 use Rattle.words.specs.First.{firstBad}
-use Rattle.words.proofs.Signed.{read-back}
-use Rattle.table.specs.declared.Sizes.{Sizes}
-use Rattle.table.specs.declared.Four.{Four}
-use Rattle.table.specs.declared.Field.{Field}
-use Rattle.table.specs.declared.Fields.{Fields}
-use Rattle.table.specs.Layout.{sizesOf, nodesOf, pointsOf, fourOf}
-use Rattle.table.specs.Formed.{nodeFieldsOf, pointFieldsOf}
-use Rattle.table.specs.Uses.{refOf, refsBy, nodeRefs, pointRefs, refsBelow, oneIf, countOf, usesOf, rule6, bumpOf, useOf, usesIn, isOneOf}
-use Rattle.table.proofs.DecodeLaws.{number-back}
+use Rattle.table.specs.Layout.{sizesOf, nodesOf, pointsOf}
+use Rattle.table.specs.Uses.{nodeRefs, pointRefs, refsBelow, oneIf, countOf, usesOf, rule6, bumpOf, useOf, usesIn, isOneOf}
 
 -- ---- counts over lists and over users
 pub count-append : (n : ℕ) (l m : List ℕ) → countOf n (l ++ m) ≡ countOf n l + countOf n m
@@ -116,55 +98,6 @@ one-min c k e = by (eqb k 1) refl
 uses-one : (room : ℕ) (refs : List ℕ) (n : ℕ) → n < room → isOneOf (usesIn (replicate room 0) refs) n ≡ eqb (countOf n refs) 1
 uses-one room refs n l = one-min _ _ (rw zero-add at (uses-min (replicate room 0) refs n 0 (rw length-replicate l) (getD-replicate room n 0 0 l)))
 
--- ---- the uses of one user, as the code counts them
--- of a node whose number was read
-pub node-used :
-    (before : List ℕ) (w : ℤ) {k : ℕ} {after : List ℕ} → mag w < 2147483648 → k ≡ numberOf (toZ w32 (ofZ w32 w)) → after ≡ useOf before k →
-    after ≡ usesIn before (numberOf w ∷ [])
-unfolding usesIn
-node-used before w p e q = q ∙ ap (useOf before) (number-back w p e)
-
--- of a field whose word comes back from its bits, and of three fields, one after another
-pub used-back :
-    (before : List ℕ) (f : Field) (w : ℤ) {after : List ℕ} → mag w < 2147483648 → after ≡ usesIn before (refOf f (toZ w32 (ofZ w32 w))) →
-    after ≡ usesIn before (refOf f w)
-used-back before f w p q = q ∙ ap (λ (z : ℤ). usesIn before (refOf f z)) (read-back p)
-
-pub uses-three :
-    (before l m n : List ℕ) {one two three : List ℕ} → one ≡ usesIn before l → two ≡ usesIn one m → three ≡ usesIn two n →
-    three ≡ usesIn before (l ++ (m ++ n))
-uses-three before l m n e f g = rw (uses-append, uses-append, ← e, ← f) g
-
--- the nodes that a node and a point name, by the four words that were read
-pub node-refs :
-    (ns : List ℤ) (n : ℕ) {x : Four} {f : Fields} {k : ℕ} {a : ℤ} → x ≡ fourOf ns n → k ≡ numberOf (x .kind) → a ≡ x .a → f ≡ nodeFieldsOf k a →
-    refsBy f x ≡ nodeRefs ns n
-node-refs ns n e ek ea ef = cc
-
-pub point-refs :
-    (ps : List ℤ) (p : ℕ) {x : Four} {f : Fields} {k : ℕ} → x ≡ fourOf ps p → k ≡ numberOf (x .kind) → f ≡ pointFieldsOf k → refsBy f x ≡ pointRefs ps p
-point-refs ps p e ek ef = cc
-
--- ---- a loop over the users
-pub record Used (f : ℕ → List ℕ) (before : List ℕ) (count n : ℕ) (counts : List ℕ) : Type 0 where
-  pub within : n ≤ count
-  pub uses : counts ≡ usesIn before (refsBelow f n)
-
-pub use-none : {f : ℕ → List ℕ} {counts : List ℕ} {count : ℕ} → Used f counts count 0 counts
-unfolding usesIn refsBelow
-use-none = record { within = zero-le; uses = refl }
-
-module _ {f : ℕ → List ℕ} {before counts : List ℕ} {count n : ℕ} where
-  pub use-more : {refs after : List ℕ} → Used f before count n counts → n < count → refs ≡ f n → after ≡ usesIn counts refs → Used f before count (n + 1) after
-  unfolding refsBelow
-  use-more u l e q = record { within = omega arith; uses = rw (add-one, uses-append, ← u .uses, ← e) q }
-
-  pub use-all : Used f before count n counts → count ≤ n → counts ≡ usesIn before (refsBelow f count)
-  use-all u l = rw (le-antisymm l (u .within)) (u .uses)
-
-  pub use-same : Used f before count n counts → length counts ≡ length before
-  use-same u = ap length (u .uses) ∙ uses-length _ _
-
 -- ---- refusal 6
 -- two tests that agree below n fail first at the same place
 firstBad-same : (f g : ℕ → Bool) (n : ℕ) → ((k : ℕ) → k < n → f k ≡ g k) → firstBad f n ≡ firstBad g n
@@ -174,9 +107,8 @@ firstBad-same f g (suc n) h = rw (firstBad-same f g n (λ k l. h k (omega arith)
 
 -- the first count that isn't one, where there is room for all nodes: the counts after the nodes' uses, and then after the points' uses
 pub uses-first :
-    (room : ℕ) (t ns ps : List ℤ) (s : Sizes) (one two : List ℕ) {r : Found} → sizesOf t .nodes ≤ room → s ≡ sizesOf t → ns ≡ nodesOf t → ps ≡ pointsOf t →
-    one ≡ usesIn (replicate room 0) (refsBelow (nodeRefs ns) (s .nodes)) → two ≡ usesIn one (refsBelow (pointRefs ps) (s .points)) →
-    r ≡ firstBad (isOneOf two) (s .nodes) → r ≡ firstBad (rule6 t) (sizesOf t .nodes)
+    (room : ℕ) (t : List ℤ) (one two : List ℕ) {count : ℕ} {r : Found} → sizesOf t .nodes ≤ room → count ≡ sizesOf t .nodes →
+    one ≡ usesIn (replicate room 0) (refsBelow (nodeRefs (nodesOf t)) (sizesOf t .nodes)) → two ≡ usesIn one (refsBelow (pointRefs (pointsOf t)) (sizesOf t .points)) →
+    r ≡ firstBad (isOneOf two) count → r ≡ firstBad (rule6 t) (sizesOf t .nodes)
 unfolding usesOf
-uses-first room t ns ps s one two l es en ep e f g =
-    rw (es, f, e, ← uses-append, en, ep, es) at g ∙ firstBad-same _ _ _ (λ n h. uses-one room _ n (omega arith))
+uses-first room t one two l ec e f g = rw (f, e, ← uses-append, ec) at g ∙ firstBad-same _ _ _ (λ n h. uses-one room _ n (omega arith))

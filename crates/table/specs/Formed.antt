@@ -8,12 +8,38 @@ use lib.IntN.{ℤ}
 use lib.Signed.{leZ}
 use Rattle.words.specs.Words.{numberOf, inside}
 use Rattle.table.specs.declared.Four.{Four}
-use Rattle.table.specs.declared.Limits.{Limits}
-use Rattle.table.specs.declared.Fields.{Fields}
-use Rattle.table.specs.declared.Field.{Field}
-use Rattle.table.specs.declared.Field.the-variants.{Unused, Any, AtLeast, Variable, Mutex, Arithmetic, Condition, Target, Unknown}
 use Rattle.table.specs.Layout.{fourOf, taskOf}
 use Rattle.table.specs.Decode.{pick, isArithmetic, isCondition}
+
+-- what a field of a node or a point must be
+pub data Field : Type 0 where
+  -- 0
+  Unused : Field
+  Any : Field
+  -- this word or a greater one
+  AtLeast : ℤ → Field
+  Variable : Field
+  Mutex : Field
+  Arithmetic : Field
+  Condition : Field
+  -- a point of the same task
+  Target : Field
+  -- nothing will do: the kind is unknown
+  Unknown : Field
+
+-- what the three fields must be
+pub record Fields : Type 0 where
+  pub a : Field
+  pub b : Field
+  pub c : Field
+
+-- what a field may name: so many variables and mutexes, the nodes below a number, so many points, those of one task
+pub record Limits : Type 0 where
+  pub variables : ℕ
+  pub mutexes : ℕ
+  pub nodes : ℕ
+  pub points : ℕ
+  pub task : ℕ
 
 -- ---- what the fields a, b, c must be, by the kind k
 abbrev pub fieldsOf : Field → Field → Field → Fields

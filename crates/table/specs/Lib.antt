@@ -5,6 +5,7 @@ pub mod Meaning
 pub mod Formed
 pub mod Uses
 pub mod Validate
+pub mod Walk
 pub mod Passes
 pub mod Laws
 pub mod Examples

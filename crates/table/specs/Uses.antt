@@ -8,11 +8,8 @@ use lib.IntN.{ℤ}
 use lib.ListN.{getD, set}
 use Rattle.words.specs.Words.{numberOf}
 use Rattle.table.specs.declared.Four.{Four}
-use Rattle.table.specs.declared.Fields.{Fields}
-use Rattle.table.specs.declared.Field.{Field}
-use Rattle.table.specs.declared.Field.the-variants.{Unused, Any, AtLeast, Variable, Mutex, Arithmetic, Condition, Target, Unknown}
 use Rattle.table.specs.Layout.{sizesOf, pointsOf, nodesOf, fourOf}
-use Rattle.table.specs.Formed.{nodeFieldsOf, pointFieldsOf, kindOf}
+use Rattle.table.specs.Formed.{Field, Unused, Any, AtLeast, Variable, Mutex, Arithmetic, Condition, Target, Unknown, Fields, nodeFieldsOf, pointFieldsOf, kindOf}
 
 -- ---- 'each node is used exactly once, as a child or by a point'
 -- the number of a field that names a node

@@ -12,9 +12,8 @@ use Rattle.words.specs.declared.Stage.the-variants.{Passed}
 use Rattle.words.specs.Words.{wordOf, numberAt, inside}
 use Rattle.words.specs.First.{unless, firstBad}
 use Rattle.words.specs.Stages.{refuse, Numbers, stageNumbers}
-use Rattle.table.specs.declared.Limits.{Limits}
 use Rattle.table.specs.Layout.{sizesOf, lengthOf, sharesOf, pointsOf, nodesOf, firstOf}
-use Rattle.table.specs.Formed.{nodeOkOf, pointOkOf}
+use Rattle.table.specs.Formed.{Limits, nodeOkOf, pointOkOf}
 use Rattle.table.specs.Uses.{rule6}
 
 -- ---- 2 size: 'tasks 1..8, variables 1..16, mutexes 0..8, points 1..256, nodes 0..1024'

@@ -1,52 +1,21 @@
-// Refusals 4 and 5 at a place: what the fields of a node and of a point must be, and whether they are.
-use crate::Field;
-use crate::Fields;
-use crate::Four;
-use crate::Limits;
+// Refusals 4 and 5 at a place: an arm for each kind tests its fields, and counts the nodes that they name.
+use crate::Bounds;
 use crate::layout::four;
-use crate::layout::task_of;
+use crate::uses::use_node;
 use words::number;
 ghost use mathlib.Core.Path.{_≡_};
+ghost use mathlib.Core.Bool.{Bool, false, _&&_};
+ghost use mathlib.Core.List.{List, [], _∷_};
+ghost use Prim.Native.Nat.{ℕ};
+ghost use lib.Dec.{eqb, leb, ltb};
+ghost use lib.IntN.{ℤ};
+ghost use Rattle.words.specs.Words.{numberOf};
+ghost use Rattle.table.specs.Layout.{sizesOf};
 ghost use Rattle.table.specs.Decode.{isArithmetic, isCondition};
-ghost use Rattle.table.specs.Formed.{fieldsOf, nodeFieldsOf, pointFieldsOf, kindOf, fitsOf, fieldsFitOf, nodeOkOf, pointOkOf};
-
-fn fields(a: Field, b: Field, c: Field) -> Fields
-    ensures { λ r. ⌜ r ≡ fieldsOf a b c ⌝ }
-{
-    Fields { a: a, b: b, c: c }
-}
-
-// What the fields of a node of the kind k must be, its first field being a.
-pub(crate) fn node_fields(k: usize, a: i32) -> Fields
-    ensures { λ r. ⌜ r ≡ nodeFieldsOf k a ⌝ }
-{
-    match k {
-        0 => fields(Field::Any, Field::Unused, Field::Unused),
-        1 => fields(Field::Any, Field::AtLeast(a), Field::Unused),
-        2 => fields(Field::Variable, Field::Unused, Field::Unused),
-        3 => fields(Field::Arithmetic, Field::Unused, Field::Unused),
-        4..=7 => fields(Field::Arithmetic, Field::Arithmetic, Field::Unused),
-        8 => fields(Field::Condition, Field::Arithmetic, Field::Arithmetic),
-        9 => fields(Field::Arithmetic, Field::Arithmetic, Field::Unused),
-        16..=19 => fields(Field::Arithmetic, Field::Arithmetic, Field::Unused),
-        20..=21 => fields(Field::Condition, Field::Condition, Field::Unused),
-        22 => fields(Field::Condition, Field::Unused, Field::Unused),
-        _ => fields(Field::Unknown, Field::Unknown, Field::Unknown),
-    }
-}
-
-// What the fields of a point of the kind k must be.
-pub(crate) fn point_fields(k: usize) -> Fields
-    ensures { λ r. ⌜ r ≡ pointFieldsOf k ⌝ }
-{
-    match k {
-        0 => fields(Field::Unused, Field::Unused, Field::Unused),
-        1 => fields(Field::Variable, Field::Arithmetic, Field::Target),
-        2 => fields(Field::Condition, Field::Target, Field::Target),
-        3..=4 => fields(Field::Mutex, Field::Target, Field::Unused),
-        _ => fields(Field::Unknown, Field::Unknown, Field::Unknown),
-    }
-}
+ghost use Rattle.table.specs.Formed.{kindOf, nodeOkOf, pointOkOf};
+ghost use Rattle.table.specs.Uses.{nodeRefs, pointRefs};
+ghost use Rattle.table.specs.Validate.{limitsOf};
+ghost use Rattle.table.specs.Walk.{Counted, Bounded};
 
 // The kind of the node or point n.
 pub fn kind_at(ws: &[i32], n: usize) -> usize
@@ -74,65 +43,102 @@ fn is_condition(k: usize) -> bool
     }
 }
 
-// Whether the word w is what the field must be.
-fn fits<'a>(l: Limits, t: &'a [i32], nodes: &'a [i32], f: Field, w: i32) -> bool
-    ensures { λ r. ⌜ r ≡ fitsOf l (now (t .entry)) (now (nodes .entry)) f w ⌝ }
+fn is_unused(w: i32) -> bool
+    ensures { λ r. ⌜ r ≡ eqb (numberOf w) 0 ⌝ }
+{
+    w == 0
+}
+
+// The kind of the node that the word w names, whose use is counted; a number that is no kind where w names no node below a number.
+fn used_kind<'a, 'b>(nodes: &'a [i32], below: usize, w: i32, counts: &'b mut [u8; 1024]) -> usize
+    ensures { λ r. ⌜ ((sort : ℕ → Bool) → sort 4294967295 ≡ false → Counted (ltb (numberOf w) below && sort (kindOf (now (nodes .entry)) (numberOf w))) (numberOf w ∷ []) (now (counts .entry)) (now (counts .exit)) (sort r)) ⌝ }
 {
     let n = number(w);
-    match f {
-        Field::Unused => n == 0,
-        Field::Any => true,
-        Field::AtLeast(a) => a <= w,
-        Field::Variable => n < l.variables,
-        Field::Mutex => n < l.mutexes,
-        Field::Arithmetic => (n < l.nodes) & is_arithmetic(kind_at(nodes, n)),
-        Field::Condition => (n < l.nodes) & is_condition(kind_at(nodes, n)),
-        Field::Target => (n < l.points) & (task_of(t, n) == l.task),
-        Field::Unknown => false,
+    if n < below {
+        use_node(counts, n);
+        kind_at(nodes, n)
+    } else {
+        4294967295
     }
 }
 
-fn fields_fit<'a>(l: Limits, t: &'a [i32], nodes: &'a [i32], f: Fields, x: Four) -> bool
-    ensures { λ r. ⌜ r ≡ fieldsFitOf l (now (t .entry)) (now (nodes .entry)) f x ⌝ }
+// Whether the word w names an arithmetic node below a number; the use of one is counted.
+fn uses_arithmetic<'a, 'b>(
+    nodes: &'a [i32],
+    below: usize,
+    w: i32,
+    counts: &'b mut [u8; 1024],
+) -> bool
+    ensures { λ r. ⌜ Counted (ltb (numberOf w) below && isArithmetic (kindOf (now (nodes .entry)) (numberOf w))) (numberOf w ∷ []) (now (counts .entry)) (now (counts .exit)) r ⌝ }
 {
-    let a = f.a;
-    let b = f.b;
-    let c = f.c;
-    fits(l, t, nodes, a, x.a) & (fits(l, t, nodes, b, x.b) & fits(l, t, nodes, c, x.c))
+    is_arithmetic(used_kind(nodes, below, w, counts))
 }
 
-// Refusal 4 at a node.
-pub(crate) fn node_ok<'a>(l: Limits, t: &'a [i32], nodes: &'a [i32], n: usize) -> bool
-    ensures { λ r. ⌜ r ≡ nodeOkOf l (now (t .entry)) (now (nodes .entry)) n ⌝ }
+// The same of a condition.
+fn uses_condition<'a, 'b>(
+    nodes: &'a [i32],
+    below: usize,
+    w: i32,
+    counts: &'b mut [u8; 1024],
+) -> bool
+    ensures { λ r. ⌜ Counted (ltb (numberOf w) below && isCondition (kindOf (now (nodes .entry)) (numberOf w))) (numberOf w ∷ []) (now (counts .entry)) (now (counts .exit)) r ⌝ }
+{
+    is_condition(used_kind(nodes, below, w, counts))
+}
+
+// Whether the word w names a point of the task.
+fn is_target(b: Bounds, w: i32) -> bool
+    ensures { λ r. ⌜ r ≡ leb (b .first) (numberOf w) && ltb (numberOf w) (b .last) ⌝ }
+{
+    let q = number(w);
+    (b.first <= q) & (q < b.last)
+}
+
+// Refusal 4 at the node n of a table that has so many variables. The operands of `&` are all evaluated, in the order of the fields.
+pub(crate) fn node_ok<'a, 'b>(
+    variables: usize,
+    nodes: &'a [i32],
+    n: usize,
+    counts: &'b mut [u8; 1024],
+) -> bool
+    ensures { λ r. ⌜ ((t : List ℤ) → variables ≡ sizesOf t .variables → Counted (nodeOkOf (limitsOf t) t (now (nodes .entry)) n) (nodeRefs (now (nodes .entry)) n) (now (counts .entry)) (now (counts .exit)) r) ⌝ }
 {
     let x = four(nodes, n);
-    let limits = Limits {
-        variables: l.variables,
-        mutexes: l.mutexes,
-        nodes: n,
-        points: l.points,
-        task: l.task,
-    };
-    fields_fit(limits, t, nodes, node_fields(number(x.kind), x.a), x)
+    let kind = x.kind;
+    match kind {
+        0 => is_unused(x.b) & is_unused(x.c),
+        1 => (x.a <= x.b) & is_unused(x.c),
+        2 => (number(x.a) < variables) & (is_unused(x.b) & is_unused(x.c)),
+        3 => uses_arithmetic(nodes, n, x.a, counts) & (is_unused(x.b) & is_unused(x.c)),
+        4..=7 | 9 | 16..=19 => uses_arithmetic(nodes, n, x.a, counts)
+            & (uses_arithmetic(nodes, n, x.b, counts) & is_unused(x.c)),
+        8 => uses_condition(nodes, n, x.a, counts)
+            & (uses_arithmetic(nodes, n, x.b, counts) & uses_arithmetic(nodes, n, x.c, counts)),
+        20..=21 => uses_condition(nodes, n, x.a, counts)
+            & (uses_condition(nodes, n, x.b, counts) & is_unused(x.c)),
+        22 => uses_condition(nodes, n, x.a, counts) & (is_unused(x.b) & is_unused(x.c)),
+        _ => false,
+    }
 }
 
-// Refusal 5 at a point.
-pub(crate) fn point_ok<'a>(
-    l: Limits,
-    t: &'a [i32],
+// Refusal 5 at the point p of the task that owns the points in the bounds.
+pub(crate) fn point_ok<'a, 'b>(
+    b: Bounds,
     nodes: &'a [i32],
     points: &'a [i32],
     p: usize,
+    counts: &'b mut [u8; 1024],
 ) -> bool
-    ensures { λ r. ⌜ r ≡ pointOkOf l (now (t .entry)) (now (nodes .entry)) (now (points .entry)) p ⌝ }
+    ensures { λ r. ⌜ ((t : List ℤ) → Bounded t p b → Counted (pointOkOf (limitsOf t) t (now (nodes .entry)) (now (points .entry)) p) (pointRefs (now (points .entry)) p) (now (counts .entry)) (now (counts .exit)) r) ⌝ }
 {
     let x = four(points, p);
-    let limits = Limits {
-        variables: l.variables,
-        mutexes: l.mutexes,
-        nodes: l.nodes,
-        points: l.points,
-        task: task_of(t, p),
-    };
-    fields_fit(limits, t, nodes, point_fields(number(x.kind)), x)
+    let kind = x.kind;
+    match kind {
+        0 => is_unused(x.a) & (is_unused(x.b) & is_unused(x.c)),
+        1 => (number(x.a) < b.variables)
+            & (uses_arithmetic(nodes, b.nodes, x.b, counts) & is_target(b, x.c)),
+        2 => uses_condition(nodes, b.nodes, x.a, counts) & (is_target(b, x.b) & is_target(b, x.c)),
+        3..=4 => (number(x.a) < b.mutexes) & (is_target(b, x.b) & is_unused(x.c)),
+        _ => false,
+    }
 }

@@ -53,37 +53,13 @@ pub enum Point {
     Unlock(usize, usize),
 }
 
-// What a field of a node or a point must be.
-pub enum Field {
-    // 0
-    Unused,
-    Any,
-    // this word or a greater one
-    AtLeast(i32),
-    Variable,
-    Mutex,
-    Arithmetic,
-    Condition,
-    // a point of the same task
-    Target,
-    // nothing will do: the kind is unknown
-    Unknown,
-}
-
-// What the three fields must be.
-pub struct Fields {
-    pub a: Field,
-    pub b: Field,
-    pub c: Field,
-}
-
-// What a field may name: so many variables and mutexes, the nodes below a number, so many points, those of one task.
-pub struct Limits {
+// What the fields of a point may name: so many variables, mutexes and nodes, and the points of its task, from first on and below last.
+pub struct Bounds {
     pub variables: usize,
     pub mutexes: usize,
     pub nodes: usize,
-    pub points: usize,
-    pub task: usize,
+    pub first: usize,
+    pub last: usize,
 }
 
 // What the evaluation of arithmetic comes to, with the position in the schedule after it: a value, or an error at a node, of a kind (1

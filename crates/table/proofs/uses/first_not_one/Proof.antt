@@ -15,13 +15,13 @@ abbrev μ-loop : tie.MeasureT-loop
 
 returns : tie.Need-returns Inv-loop μ-loop
 returns c =
-    stop (c .before .before .before .loop .inv) (c .before .before .loop-test .taken)
-    (fails-not (c .before .is-one .ensures) (c .if1 .taken))
+    let turn = c .before .before .before in
+    stop (turn .before .loop .inv) (turn .loop-test .taken) (fails-not (c .before .is-one .ensures) (c .if1 .taken))
 
 loop-again : tie.Need-loop-again Inv-loop μ-loop
 loop-again c =
-    next (c .before .before .before .loop .inv) (c .before .before .loop-test .taken)
-    (holds-not (c .before .is-one .ensures) (c .if1 .left))
+    let turn = c .before .before .before in
+    next (turn .before .loop .inv) (turn .loop-test .taken) (holds-not (c .before .is-one .ensures) (c .if1 .left))
 
 pub first-not-one-spec : {M : Type 1} → statement M
 first-not-one-spec =

@@ -1,5 +1,5 @@
 -- `table::validate::validate` meets its contract: each `return` is the rules that passed, and the one that refused. Assumes nothing.
-use Prim.Native.Nat.{_≤_}
+use Prim.Native.Nat.{ℕ, _<_}
 use mathlib.Core.Path.{_≡_, refl, sym, _∙_}
 use mathlib.Core.Bool.{true}
 use mathlib.Core.List.{List}
@@ -8,14 +8,16 @@ use borrow.Author.Tests.{leb-true, le-leb, lt-leb, eq-eqb, ne-eqb}
 use denote.Ref.{now}
 use lib.Dec.{lit<, leb}
 use lib.IntN.{ℤ}
-use lib.ListN.{length}
+use lib.ListN.{length, getD}
 use Rattle.words.specs.declared.Found.the-variants.{Nothing}
+use Rattle.words.specs.Words.{numberAt, inside}
 use Rattle.words.specs.First.{firstBad}
-use Rattle.words.proofs.Bools.{and-right}
+use Rattle.words.proofs.Bools.{and-left, and-right}
 use Rattle.words.proofs.FirstLaws.{firstBad-none}
 use Rattle.words.proofs.StageLaws.{pass, halt, pass-if, halt-if, numbered}
 use Rattle.table.specs.Layout.{sizesOf}
-use Rattle.table.specs.Validate.{sizeOkOf, sizesStage}
+use Rattle.table.specs.Validate.{lowest, highest, sizeOkOf, sizesStage}
+use Rattle.table.specs.Walk.{Whole}
 use Rattle.table.proofs.validate.validate.Statement.{statement}
 use Rattle.table.proofs.validate.validate.Tie as tie
 
@@ -30,10 +32,19 @@ long c = le-leb _ _ (c .if1 .left)
 sized : (c : tie.After-enum-told) → firstBad (sizeOkOf (table (c .before .before .before .before))) 5 ≡ Nothing
 sized c = sym (c .before .before .first-size .ensures) ∙ c .enum-told .given .1
 
-few-nodes : (c : tie.After-enum-told) → sizesOf (table (c .before .before .before .before)) .nodes ≤ 1024
-few-nodes c =
-    let t = table (c .before .before .before .before) in
-    leb-true _ _ (and-right (leb 0 (sizesOf t .nodes)) _ (firstBad-none (sizeOkOf t) 5 (sized c) 4 (lit< tt)))
+within : (c : tie.After-enum-told) (k : ℕ) → k < 5 → let t = table (c .before .before .before .before) in
+    inside (getD lowest k 0) (getD highest k 0) (numberAt t k) ≡ true
+within c = firstBad-none (sizeOkOf (table (c .before .before .before .before))) 5 (sized c)
+
+whole : (c : tie.Else2) → Whole (table (c .before .before .before .before .before .before))
+whole c =
+    let sizes = c .before .before in
+    let t = table (sizes .before .before .before .before) in
+    record {
+      some = leb-true 1 (sizesOf t .tasks) (and-left _ _ (within sizes 0 (lit< tt)));
+      few = leb-true (sizesOf t .nodes) 1024 (and-right (leb 0 (sizesOf t .nodes)) _ (within sizes 4 (lit< tt)));
+      whole = c .if2 .left ∙ c .before .length-for .ensures;
+    }
 
 short : tie.Need-returns
 unfolding sizesStage
@@ -71,5 +82,5 @@ validate-spec =
     (λ c. search needs)
     (λ c κs. search needs)
     length-broken
-    (λ c κs. few-nodes (c .before .before))
+    (λ c κs. whole c)
     passed)
