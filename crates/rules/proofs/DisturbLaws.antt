@@ -2,24 +2,20 @@
 -- Assumes nothing.
 use Prim.Native.Nat.{ℕ, _+_, _*_}
 use mathlib.Core.Path.{_≡_, refl, sym, ap, _∙_}
-use mathlib.Core.Bool.{Bool, true, false, not, cond, _&&_}
+use mathlib.Core.Bool.{Bool, true, false, not, _&&_}
 use mathlib.Core.List.{List}
 use borrow.Author.Tests.{eq-eqb, ne-eqb}
 use lib.IntN.{ℤ}
 use lib.Signed.{leZ}
 use Rattle.words.specs.Words.{wordOf, numberAt}
 use Rattle.words.specs.First.{allBelow}
-use Rattle.words.proofs.Bools.{clash, and-left, and-right}
-use Rattle.interval.specs.Interval.{onEnds, fromTo}
-use Rattle.interval.specs.Lattice.{withinOf}
-use Rattle.interval.specs.declared.Interval.the-variants.{None, Between}
-use Rattle.interval.proofs.IntegerLaws.{≤-trans, le-true, leZ-yes′}
 use Rattle.table.specs.Layout.{taskOf}
 use Rattle.analysis.specs.Rows.{Row, rowOf}
 use Rattle.rules.specs.Held.{disjointOf}
 use Rattle.rules.specs.Proposal.{entriesOf, heldOf, reachedOf, headOf, rowAt, entryLow, entryHigh}
 use Rattle.rules.specs.Rules.{implies, takes, disturbs, undisturbed, rule15}
 use Rattle.rules.specs.Ready.{Apart, Readable}
+use Rattle.rules.proofs.RowLaws.{ends-within}
 
 -- ---- an entry i leaves a task u with the held set s and the row r alone: it is of that task, or its set meets s, or it is within the row
 abbrev pub leaves : List ℤ → List ℤ → ℕ → ℕ → Row → ℕ → Bool
@@ -56,22 +52,6 @@ module _ (t w : List ℤ) (p : ℕ) where
       → lows ≡ rowAt t w p .lows → highs ≡ rowAt t w p .highs → allBelow (leaves t w u s (rowOf lows highs)) n ≡ b → rule15 t w p ≡ b
   unfolding rule15 undisturbed
   reached e task set entries low high q = rw e (rw (task, set, entries, low, high) at q)
-
--- the row's interval holds that of an entry whose ends are in order exactly when it holds both ends; a row's interval that is none holds no end
-ends-within : (a b c d : ℤ) → leZ a b ≡ true → leZ c a && leZ b d ≡ withinOf (fromTo a b) (fromTo c d)
-unfolding withinOf onEnds
-ends-within a b c d e = rw (e, e) (by (leZ c d) refl)
-  where
-    both : (t : Bool) → leZ c a && leZ b d ≡ t → leZ c d ≡ false → leZ c a && leZ b d ≡ false
-    both false q f = q
-    both true q f =
-        let low = leZ-yes′ c a (and-left (leZ c a) (leZ b d) q) in
-        let high = leZ-yes′ b d (and-right (leZ c a) (leZ b d) q) in
-        clash (sym (le-true (≤-trans low (≤-trans (leZ-yes′ a b e) high))) ∙ f)
-
-    by : (t : Bool) → leZ c d ≡ t → leZ c a && leZ b d ≡ onEnds false (λ c d. leZ c a && leZ b d) (cond t (Between c d) None)
-    by true f = rw f
-    by false f = both (leZ c a && leZ b d) refl f
 
 module _ {t w h from to lows highs : List ℤ} (a : Apart t w h from to) (i : ℕ) where
   pub takes-is : Readable h from to lows highs i → let v = numberAt h (3 * i + 2) in

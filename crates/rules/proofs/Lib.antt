@@ -1,6 +1,7 @@
 pub mod HeldLaws
 pub mod ProposalLaws
 pub mod RowLaws
+pub mod OrderedLaws
 pub mod PlaceLaws
 pub mod RangeLaws
 pub mod PartsLaws

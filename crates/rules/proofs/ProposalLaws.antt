@@ -7,9 +7,12 @@ use native.Mathlib.Omega.{arith}
 use lib.IntN.{ℤ}
 use Rattle.table.specs.Layout.{sizesOf}
 use Rattle.rules.specs.Proposal.{rowsOf, intervalsOf}
-use Rattle.rules.specs.Ready.{Bounded}
+use Rattle.rules.specs.Ready.{Limits, Bounded}
 
-module _ {t w : List ℤ} (b : Bounded t w) where
+pub limits : {t w : List ℤ} → Bounded t w → Limits t w
+limits b = record { variables = b .variables; mutexes = b .mutexes; points = b .points; entries = b .entries }
+
+module _ {t w : List ℤ} (b : Limits t w) where
   -- the intervals of the rows
   pub rows-bound : rowsOf t * sizesOf t .variables ≤ 4224
   rows-bound = mul-le-mul {n₂ = 264} (omega (arith, b .points, b .mutexes)) (b .variables)

@@ -1,26 +1,26 @@
 -- Refusals 8, 9 and 10 where the code has looked at the cases before.
 -- Assumes nothing.
-use Prim.Native.Nat.{ℕ, zero, suc, _+_, _-_, _^_, _<_, _≤_}
+use Prim.Native.Nat.{ℕ, zero, suc, _+_, _-_, _*_, _%_, _^_, _<_, _≤_}
 use mathlib.Core.Path.{_≡_, refl, ap}
-use mathlib.Core.Bool.{Bool, true, false}
+use mathlib.Core.Bool.{Bool, true, false, _||_}
 use mathlib.Core.List.{List}
-use native.Mathlib.Nat.{add-zero, add-suc}
+use native.Mathlib.Nat.{add-zero, add-suc, mul-add-mod-self-left}
 use native.Mathlib.Omega.{arith}
-use borrow.Author.Tests.{le-ltb}
+use borrow.Author.Tests.{lt-ltb, le-ltb}
 use lib.Dec.{leb, ltb}
 use lib.IntN.{ℤ, pos, negsuc}
 use lib.Signed.{mag, leZ}
 use mir.Syntax.{w32}
 use mir.Val.{ofZ}
 use Rattle.words.specs.declared.Found.the-variants.{Nothing, At}
-use Rattle.words.specs.Words.{wordOf}
+use Rattle.words.specs.Words.{wordOf, numberAt}
 use Rattle.words.specs.First.{firstBad, orElse}
-use Rattle.words.proofs.FirstLaws.{Searched, next}
+use Rattle.words.proofs.FirstLaws.{Searched, next, none-firstBad}
 use Rattle.interval.proofs.Machine.{bits-eq}
 use Rattle.interval.proofs.MachineArithmetic.{ok32}
 use Rattle.table.specs.Layout.{sizesOf}
-use Rattle.rules.specs.Proposal.{entriesOf, headsFrom, lowsFrom, headOf, lowsOf, highsOf}
-use Rattle.rules.specs.Rules.{rule8, minusOne, headInRange, rule9, beforeOf, rule10}
+use Rattle.rules.specs.Proposal.{entriesOf, headsFrom, lowsFrom, heldWordOf, heldOf, headOf, lowsOf, highsOf}
+use Rattle.rules.specs.Rules.{rule8, minusOne, heldInRange, headInRange, rule9, beforeOf, rule10}
 
 -- past the sizes that the table has, the entries
 pub entries-size : (t w : List ℤ) (k : ℕ) → 3 ≤ k → rule8 t w k ≡ leb (entriesOf w) 512
@@ -29,13 +29,6 @@ entries-size t w zero h = absurd (omega arith)
 entries-size t w (suc zero) h = absurd (omega arith)
 entries-size t w (suc (suc zero)) h = absurd (omega arith)
 entries-size t w (suc (suc (suc k))) h = refl
-
--- past the task and the held set, the variable
-pub variable-head : (t : List ℤ) (field n : ℕ) → 2 ≤ field → headInRange t field n ≡ ltb n (sizesOf t .variables)
-unfolding headInRange
-variable-head t zero n h = absurd (omega arith)
-variable-head t (suc zero) n h = absurd (omega arith)
-variable-head t (suc (suc k)) n h = refl
 
 -- an entry past the first is looked at with the one before
 pub order-is : (t w : List ℤ) (i : ℕ) → (i ≡ 0 → ⊥) → rule10 t w i ≡ beforeOf t w (i - 1) (headOf t w i 0) (headOf t w i 1) (headOf t w i 2)
@@ -51,6 +44,78 @@ pub not-minus-one : (z : ℤ) → (ofZ w32 z ≡ 4294967295 → ⊥) → minusOn
 not-minus-one (pos n) h = refl
 not-minus-one (negsuc zero) h = absurd (h refl)
 not-minus-one (negsuc (suc n)) h = refl
+
+-- ---- the held words
+-- the words before them pass
+pub held-start : (t w : List ℤ) → Searched (rule9 t w) (headsFrom t) 4
+unfolding rule9 headsFrom
+held-start t w = record { within = omega arith; none = none-firstBad (rule9 t w) 4 (λ j l. rw (lt-ltb j 4 l)) }
+
+pub held-word : (t w : List ℤ) (i : ℕ) → 4 ≤ i → i < headsFrom t → rule9 t w i ≡ minusOne (wordOf w i) || ltb (numberAt w i) (2 ^ sizesOf t .mutexes)
+unfolding rule9 heldInRange heldOf heldWordOf
+held-word t w i h l = let there : 4 + (i - 4) ≡ i = omega arith in rw (le-ltb i 4 h, lt-ltb i (headsFrom t) l, there)
+
+-- ---- the heads of the entries
+-- word k of the head of entry e
+pub head-word : (t w : List ℤ) (e k : ℕ) → 3 * e + k < 3 * entriesOf w
+    → rule9 t w (headsFrom t + (3 * e + k)) ≡ headInRange t (k % 3) (numberAt w (headsFrom t + (3 * e + k)))
+unfolding rule9 headsFrom lowsFrom
+head-word t w e k l =
+    let at = headsFrom t + (3 * e + k) in
+    let there : headsFrom t + (3 * e + k) - headsFrom t ≡ 3 * e + k = omega arith in
+    rw (
+      le-ltb at 4 (omega arith),
+      le-ltb at (headsFrom t) (omega arith),
+      lt-ltb at (lowsFrom t w) (omega arith),
+      there,
+      mul-add-mod-self-left 3 e k,
+    )
+
+-- a loop over the heads, three words a turn, has this invariant: the words before i pass, and i is the first of an entry
+pub record Headed (t w : List ℤ) (i : ℕ) : Type 0 where
+  pub entry : ℕ
+  pub at : i ≡ headsFrom t + 3 * entry
+  pub searched : Searched (rule9 t w) (lowsFrom t w) i
+
+pub head-start : (t w : List ℤ) → firstBad (rule9 t w) (headsFrom t) ≡ Nothing → Headed t w (headsFrom t)
+unfolding lowsFrom
+head-start t w e = record { entry = 0; at = omega arith; searched = record { within = omega arith; none = e } }
+
+module _ {t w : List ℤ} {i : ℕ} (s : Headed t w i) (l : i < lowsFrom t w) where
+  -- a turn's words are all there
+  pub head-inside : i + 2 < lowsFrom t w
+  unfolding lowsFrom
+  head-inside = omega (arith, s .at)
+
+  word-is : (k : ℕ) → k < 3 → rule9 t w (i + k) ≡ headInRange t (k % 3) (numberAt w (i + k))
+  unfolding lowsFrom
+  word-is k h =
+      let here : i + k ≡ headsFrom t + (3 * s .entry + k) = omega (arith, s .at) in
+      rw here (head-word t w (s .entry) k (omega (arith, s .at)))
+
+  pub task-is : rule9 t w i ≡ ltb (numberAt w i) (sizesOf t .tasks)
+  unfolding headInRange
+  task-is = rw (add-zero i) at (word-is 0 (omega arith))
+
+  pub set-is : rule9 t w (i + 1) ≡ ltb (numberAt w (i + 1)) (2 ^ sizesOf t .mutexes)
+  unfolding headInRange
+  set-is = word-is 1 (omega arith)
+
+  pub variable-is : rule9 t w (i + 2) ≡ ltb (numberAt w (i + 2)) (sizesOf t .variables)
+  unfolding headInRange
+  variable-is = word-is 2 (omega arith)
+
+  -- where they pass, one after the other
+  pub past-task : rule9 t w i ≡ true → Searched (rule9 t w) (lowsFrom t w) (i + 1)
+  past-task e = next (s .searched) l e
+
+  pub past-set : rule9 t w i ≡ true → rule9 t w (i + 1) ≡ true → Searched (rule9 t w) (lowsFrom t w) (i + 2)
+  past-set e f = let two : i + 1 + 1 ≡ i + 2 = omega arith in rw two at (next (past-task e) (omega (arith, head-inside)) f)
+
+  pub head-next : rule9 t w i ≡ true → rule9 t w (i + 1) ≡ true → rule9 t w (i + 2) ≡ true → Headed t w (i + 3)
+  head-next e f g =
+      let three : i + 2 + 1 ≡ i + 3 = omega arith in
+      record { entry = s .entry + 1; at = omega (arith, s .at); searched = rw three at (next (past-set e f) head-inside g) }
 
 -- ---- the words before the ends, and the ends
 -- where a word before fails, it is the first in a longer search too

@@ -1,4 +1,4 @@
--- What stages that passed tell the stages after them: `Bounded` after 8, `Ready` after 11; what a point of a table that passed names; that the places
+-- What stages that passed tell the stages after them: `Limits` after 8, `Bounded` after 7, `Ready` after 11; what a point of a table that passed names; that the places
 -- of the whole table are ranges of numbers that fit; and which marks refusals 1 to 11 leave.
 -- Assumes nothing.
 use Prim.Native.Nat.{ℕ, _+_, _<_, _≤_}
@@ -19,37 +19,44 @@ use Rattle.words.proofs.StageLaws.{refuse-found, refuse-later, andThen-first, a
 use Rattle.table.specs.Layout.{sizesOf, pointsOf}
 use Rattle.table.specs.Decode.{pointOf}
 use Rattle.table.specs.Validate.{validateOf}
-use Rattle.table.specs.Passes.{SameTask, FormedPoint, Passes}
+use Rattle.table.specs.Passes.{FormedPoint, Passes}
 use Rattle.table.specs.declared.Point.{Point}
 use Rattle.table.proofs.PassLaws.{passes}
 use Rattle.analysis.specs.Alarms.{markedOf}
 use Rattle.rules.specs.declared.Scope.{Scope}
-use Rattle.rules.specs.declared.Places.{Places}
-use Rattle.rules.specs.Proposal.{entriesOf, intervalsOf, lowsFrom, proposalLength}
+use Rattle.rules.specs.Proposal.{rowsOf, entriesOf, intervalsOf, lowsFrom, proposalLength}
 use Rattle.rules.specs.Rules.{rule8, rule9, rule10}
 use Rattle.rules.specs.Alarms.{alarmsIn}
-use Rattle.rules.specs.Ready.{Bounded, Ready}
+use Rattle.rules.specs.Ready.{Limits, Bounded, Ready}
 use Rattle.rules.specs.Examine.{wholeOf, layoutStage, wordsStage, readyOf, marksBy, marksOf}
 
 -- ---- what the stages tell
-pub bounded : {t w : List ℤ} → Passes t → firstBad (rule8 t w) 4 ≡ Nothing → Bounded t w
+pub sizes-limited : {t w : List ℤ} → Passes t → firstBad (rule8 t w) 4 ≡ Nothing → Limits t w
 unfolding rule8
-bounded {t} {w} p e = record {
-  tasks = p .tasks .high;
+sizes-limited {t} {w} p e = record {
   variables = p .variables .high;
   mutexes = p .mutexes .high;
   points = p .points .high;
-  nodes = p .nodes .high;
   entries = leb-true _ _ (firstBad-none (rule8 t w) 4 e 3 (lit< tt));
 }
-
-pub layout-bounded : {t w : List ℤ} → Passes t → layoutStage t w ≡ Passed → Bounded t w
-unfolding layoutStage
-layout-bounded p e = bounded p (refuse-found 8 _ _ (refuse-later 7 _ _ e))
 
 layout-whole : (t w : List ℤ) → layoutStage t w ≡ Passed → length w ≡ proposalLength t w
 unfolding layoutStage
 layout-whole t w e = eqb-true _ _ (unless-nothing _ _ (refuse-found 7 _ _ (refuse-later 8 _ _ (refuse-later 7 _ _ e))))
+
+pub layout-bounded : {t w : List ℤ} → Passes t → layoutStage t w ≡ Passed → Bounded t w
+unfolding layoutStage
+layout-bounded {t} {w} p e =
+    let sizes = sizes-limited p (refuse-found 8 _ _ (refuse-later 7 _ _ e)) in
+    record {
+      tasks = p .tasks .high;
+      variables = sizes .variables;
+      mutexes = sizes .mutexes;
+      points = sizes .points;
+      nodes = p .nodes .high;
+      entries = sizes .entries;
+      whole = layout-whole t w e;
+    }
 
 in-range : (t w : List ℤ) → wordsStage t w ≡ Passed → (i : ℕ) → i < lowsFrom t w + intervalsOf t w → rule9 t w i ≡ true
 unfolding wordsStage
@@ -66,31 +73,21 @@ ready t w e =
     let later = andThen-later (validateOf t) _ e in
     let sized = andThen-first (layoutStage t w) _ later in
     let read = andThen-first (wordsStage t w) _ (andThen-later (layoutStage t w) _ later) in
-    record { bounded = layout-bounded table sized; passes = table; whole = layout-whole t w sized; range = in-range t w read; order = ordered t w read }
+    record { bounded = layout-bounded table sized; passes = table; range = in-range t w read; order = ordered t w read }
 
 -- ---- a point of a table that passed: z is what the code reads there
 module _ {t : List ℤ} (table : Passes t) where
   pub formed : (p : ℕ) {ps : List ℤ} {x z : Point} → p < sizesOf t .points → ps ≡ pointsOf t → z ≡ pointOf ps p → z ≡ x → FormedPoint t p x
   formed p l e f g = rw (← e, ← f, g) at (table .point p l)
 
-  pub target-fits : {p q : ℕ} → SameTask t p q → q ≤ 4294967295
-  target-fits h = omega (arith, h .point, table .points .high)
-
   pub mutex-fits : {m : ℕ} → m < sizesOf t .mutexes → m < 8
   mutex-fits h = omega (arith, table .mutexes .high)
 
--- ---- places: the range is one, and its numbers fit
-abbrev Fit : Places → Type 0
-Fit r = (r .from ≤ r .to) × (r .to ≤ 4294967295)
-
+-- ---- places: the range is one, and it ends where the table and the proposal do
 module _ {t w : List ℤ} {s : Scope} (e : s ≡ wholeOf t w) (b : Bounded t w) where
-  pub points-fit : Fit (s .points)
-  points-fit = rw e (omega arith, omega (arith, b .points))
+  pub rests-fit : (sizesOf t .points ≤ s .rests .from) × (s .rests .from ≤ s .rests .to) × (s .rests .to ≤ rowsOf t)
+  rests-fit = rw e (omega arith, omega arith, omega arith)
 
-  pub rests-fit : Fit (s .rests)
-  rests-fit = rw e (omega arith, omega (arith, b .points, b .mutexes))
-
-  -- and end where the table and the proposal do
   pub points-there : (s .points .from ≤ s .points .to) × (s .points .to ≤ sizesOf t .points)
   points-there = rw e (omega arith, omega arith)
 

@@ -18,17 +18,17 @@ use Rattle.rules.specs.Held.{hasOf}
 use Rattle.rules.specs.Proposal.{entriesOf, heldOf, reachedOf, headOf, rowAt, restAt}
 use Rattle.rules.specs.Outcomes.{Outcome, rowWithinOf, outcomeIf, onlyIf, outcomesBy, outcomesOf}
 use Rattle.rules.specs.Rules.{implies, allOutcomes, takes, rests, restPoint, restEntry, rule16}
-use Rattle.rules.specs.Ready.{Parts, Ready}
+use Rattle.rules.specs.Ready.{Parts}
 use Rattle.rules.proofs.DisturbLaws.{takes-is, head-at}
 use Rattle.rules.proofs.PartsLaws.{readable, head-variable, row-low, row-high}
 
--- the mutex of an unlock is one of the table's, which are at most 8
+-- the mutex of an unlock is one of the table's
 unlock-formed : (t : List ℤ) (p : ℕ) (x : Point) {m q : ℕ} → x ≡ Unlock m q → FormedPoint t p x → m < sizesOf t .mutexes
 unfolding FormedPoint
 unlock-formed t p x e f = (rw e at f) .0
 
-pub unlock-below : (t : List ℤ) (p : ℕ) {m q : ℕ} → Passes t → p < sizesOf t .points → pointOf (pointsOf t) p ≡ Unlock m q → m < 8
-unlock-below t p passes l e = omega (arith, passes .mutexes .high, unlock-formed t p (pointOf (pointsOf t) p) e (passes .point p l))
+pub unlock-names : (t : List ℤ) (p : ℕ) {m q : ℕ} → Passes t → p < sizesOf t .points → pointOf (pointsOf t) p ≡ Unlock m q → m < sizesOf t .mutexes
+unlock-names t p passes l e = unlock-formed t p (pointOf (pointsOf t) p) e (passes .point p l)
 
 module _ (t w : List ℤ) (p : ℕ) where
   -- ---- at a point: it isn't reached, or what stands there is tested
@@ -68,10 +68,11 @@ module _ (t w : List ℤ) (p : ℕ) where
 abbrev pub entryRests : List ℤ → List ℤ → ℕ → ℕ → Bool
 entryRests t w i m = implies (not (hasOf (headOf t w i 1) m)) (takes t w (restAt t w m) i)
 
-module _ {t w h from to low high : List ℤ} (r : Ready t w) (parts : Parts t w h from to low high) (i m : ℕ) where
+module _ {t w h from to low high : List ℤ} (parts : Parts t w h from to low high) (i m : ℕ) where
   pub entry-tested : i < entriesOf w → m < sizesOf t .mutexes → let k = (sizesOf t .points + m) * sizesOf t .variables + headOf t w i 2 in
       implies (not (hasOf (headOf t w i 1) m)) (leZ (wordOf low k) (wordOf from i) && leZ (wordOf to i) (wordOf high k)) ≡ entryRests t w i m
   entry-tested li lm =
+      let r = parts .rows .ready in
       let row = sizesOf t .points + m in
       let v = headOf t w i 2 in
       let below = head-variable r i li in

@@ -1,41 +1,52 @@
--- Rows as the code looks at them, an interval at a time: met with another row, and with words written.
+-- Rows as the code looks at them, two ends at a time: within another, met with another, and with words written.
 -- Assumes nothing.
-use Prim.Native.Nat.{ℕ, zero, suc, _^_, _<_, _≤_}
+use Prim.Native.Nat.{ℕ, zero, suc, _<_, _≤_}
 use mathlib.Core.Path.{_≡_, refl, sym, subst, _∙_}
-use mathlib.Core.Bool.{Bool, false}
+use mathlib.Core.Bool.{Bool, true, false, not, cond, _&&_}
 use mathlib.Core.List.{List, [], _∷_}
 use native.Mathlib.Omega.{arith}
+use borrow.Author.Tests.{eqb-true, eqb-false}
+use lib.Dec.{eqb}
 use lib.IntN.{ℤ, pos}
 use lib.ListN.{length, set, length-set}
 use lib.Seq.{getD-set-same, getD-set-other, set-out}
-use lib.Signed.{mag, _<ℤ_, ≤ℤ-refl}
+use lib.Signed.{leZ, _<ℤ_, ≤ℤ-refl}
 use Rattle.words.specs.Words.{wordOf}
 use Rattle.words.specs.First.{allBelow}
-use Rattle.words.proofs.FirstLaws.{Checked, fails-at}
+use Rattle.words.proofs.Bools.{clash, and-true, and-left, and-right}
+use Rattle.words.proofs.FirstLaws.{Checked, fails-at, allBelow-each}
 use Rattle.words.proofs.FillLaws.{length-tabulate}
 use Rattle.interval.specs.Integer.{minZ, maxZ}
 use Rattle.interval.specs.Interval.{onEnds, fromTo}
-use Rattle.interval.specs.Lattice.{withinOf, meetOf}
-use Rattle.interval.specs.declared.Interval.{Interval}
+use Rattle.interval.specs.Lattice.{isNoneOf, withinOf, meetOf}
 use Rattle.interval.specs.declared.Interval.the-variants.{None, Between}
-use Rattle.interval.proofs.IntegerLaws.{leZ-cases, le-true, le-false, ≤-<-trans, <-≤-trans, min-left, min-right, max-left, max-right, min-is, max-is}
-use Rattle.interval.proofs.MachineArithmetic.{word, handed32}
+use Rattle.interval.proofs.IntegerLaws.{leZ-cases, leZ-yes′, le-true, le-false, ≤-trans, ≤-<-trans, <-≤-trans, min-left, min-right, max-left, max-right, min-above, max-below, min-is, max-is}
+use Rattle.interval.proofs.Machine.{same-truth}
 use Rattle.analysis.specs.Rows.{Row, rowOf, rangeOf, slotsOf, each}
 use Rattle.analysis.proofs.RowLaws.{each-is, slots-within}
 use Rattle.rules.specs.Outcomes.{rowWithinOf}
+use Rattle.rules.specs.Ready.{Ordered}
 
 -- ---- the test at a variable, and the loop over the variables
 -- the interval of v in r lies within that in s
 abbrev pub Lies : Row → Row → ℕ → Bool
 Lies r s v = withinOf (rangeOf r v) (rangeOf s v)
 
--- the interval of two words that calls gave
-pub between-is : {x : Interval} {a b p q : ℤ} → x ≡ fromTo (word a) (word b) → a ≡ p → mag a < 2 ^ 31 → b ≡ q → mag b < 2 ^ 31 → x ≡ fromTo p q
-between-is e f g h k = rw (handed32 f g, handed32 h k) at e
+-- an interval whose ends are in order lies within another exactly when its ends do; nothing lies within one that is none
+pub ends-within : (a b c d : ℤ) → leZ a b ≡ true → leZ c a && leZ b d ≡ withinOf (fromTo a b) (fromTo c d)
+unfolding withinOf onEnds
+ends-within a b c d e = rw (e, e) (by (leZ c d) refl)
+  where
+    both : (t : Bool) → leZ c a && leZ b d ≡ t → leZ c d ≡ false → leZ c a && leZ b d ≡ false
+    both false q f = q
+    both true q f =
+        let low = leZ-yes′ c a (and-left (leZ c a) (leZ b d) q) in
+        let high = leZ-yes′ b d (and-right (leZ c a) (leZ b d) q) in
+        clash (sym (le-true (≤-trans low (≤-trans (leZ-yes′ a b e) high))) ∙ f)
 
--- the test of two intervals that calls gave
-pub within-is : {t : Bool} {x y p q : Interval} → t ≡ withinOf x y → x ≡ p → y ≡ q → t ≡ withinOf p q
-within-is e f g = rw (← f, ← g) e
+    by : (t : Bool) → leZ c d ≡ t → leZ c a && leZ b d ≡ onEnds false (λ c d. leZ c a && leZ b d) (cond t (Between c d) None)
+    by true f = rw f
+    by false f = both (leZ c a && leZ b d) refl f
 
 -- the loop is left where the test fails
 pub fails-in : {f : ℕ → Bool} {n k : ℕ} → Checked f n k → k < n → f k ≡ false → false ≡ allBelow f n
@@ -45,24 +56,66 @@ fails-in {f} {n} {k} s l q = sym (fails-at f n k l q)
 fromTo-none : {lo hi : ℤ} → hi <ℤ lo → None ≡ fromTo lo hi
 fromTo-none h = rw (le-false h)
 
-meet-fromTo : (a b c d : ℤ) → meetOf (fromTo a b) (fromTo c d) ≡ fromTo (maxZ a c) (minZ b d)
-unfolding meetOf onEnds
-meet-fromTo a b c d =
-    leZ-cases (λ x. meetOf x (fromTo c d) ≡ fromTo (maxZ a c) (minZ b d)) a b (Between a b) None
-    (λ h.
-    leZ-cases (λ y. meetOf (Between a b) y ≡ fromTo (maxZ a c) (minZ b d)) c d (Between c d) None
-    (λ k. rw (le-true h, le-true k))
-    (λ k. rw (le-true h) (fromTo-none (≤-<-trans (min-right b d) (<-≤-trans k (max-right a c))))))
-    (λ h. fromTo-none (≤-<-trans (min-left b d) (<-≤-trans h (max-left a c))))
+-- the interval of v in both isn't empty
+abbrev pub Meets : Row → Row → ℕ → Bool
+Meets r s v = not (isNoneOf (meetOf (rangeOf r v) (rangeOf s v)))
+
+module _ (a b c d : ℤ) where
+  meet-fromTo : meetOf (fromTo a b) (fromTo c d) ≡ fromTo (maxZ a c) (minZ b d)
+  unfolding meetOf onEnds
+  meet-fromTo =
+      leZ-cases (λ x. meetOf x (fromTo c d) ≡ fromTo (maxZ a c) (minZ b d)) a b (Between a b) None
+      (λ h.
+      leZ-cases (λ y. meetOf (Between a b) y ≡ fromTo (maxZ a c) (minZ b d)) c d (Between c d) None
+      (λ k. rw (le-true h, le-true k))
+      (λ k. rw (le-true h) (fromTo-none (≤-<-trans (min-right b d) (<-≤-trans k (max-right a c))))))
+      (λ h. fromTo-none (≤-<-trans (min-left b d) (<-≤-trans h (max-left a c))))
+
+  -- what is met isn't none where its ends are in order
+  pub meet-some : not (isNoneOf (meetOf (fromTo a b) (fromTo c d))) ≡ leZ (maxZ a c) (minZ b d)
+  unfolding onEnds
+  meet-some = rw meet-fromTo (by (leZ (maxZ a c) (minZ b d)) refl)
+    where
+      by : (t : Bool) → leZ (maxZ a c) (minZ b d) ≡ t → not (isNoneOf (cond t (Between (maxZ a c) (minZ b d)) None)) ≡ t
+      by true e = rw e
+      by false e = refl
+
+  -- which they are where neither begins past the other's end
+  pub overlap-is : leZ a b ≡ true → leZ c d ≡ true → leZ a d && leZ c b ≡ not (isNoneOf (meetOf (fromTo a b) (fromTo c d)))
+  overlap-is e f = rw meet-some (same-truth _ _ to from)
+    where
+      to : leZ a d && leZ c b ≡ true → leZ (maxZ a c) (minZ b d) ≡ true
+      to q =
+          let first = leZ-yes′ a d (and-left (leZ a d) (leZ c b) q) in
+          let second = leZ-yes′ c b (and-right (leZ a d) (leZ c b) q) in
+          le-true (max-below (min-above (leZ-yes′ a b e) first) (min-above second (leZ-yes′ c d f)))
+
+      from : leZ (maxZ a c) (minZ b d) ≡ true → leZ a d && leZ c b ≡ true
+      from q =
+          let met = leZ-yes′ (maxZ a c) (minZ b d) q in
+          and-true (le-true (≤-trans (max-left a c) (≤-trans met (min-right b d)))) (le-true (≤-trans (max-right a c) (≤-trans met (min-left b d))))
 
 -- the row a..b met with the row c..d
 abbrev pub metOf : List ℤ → List ℤ → List ℤ → List ℤ → Row
 metOf a b c d = rowOf (each maxZ a c) (each minZ b d)
 
-pub met-is : {x : Interval} (a b c d : List ℤ) (v : ℕ) → x ≡ meetOf (rangeOf (rowOf a b) v) (rangeOf (rowOf c d) v) → x ≡ rangeOf (metOf a b c d) v
-met-is a b c d v e =
+-- ---- the tests at v of rows that can be read: lo and hi, and so on, are the ends as the code has them
+module _ {l h m k : List ℤ} {n v : ℕ} {x : Bool} {lo hi lo₂ hi₂ : ℤ} (o : Ordered l h n) (p : Ordered m k n) (below : v < n) where
+  pub lies-is : lo ≡ wordOf l v → hi ≡ wordOf h v → lo₂ ≡ wordOf m v → hi₂ ≡ wordOf k v → x ≡ leZ lo₂ lo && leZ hi hi₂ → x ≡ Lies (rowOf l h) (rowOf m k) v
+  lies-is a b c d q = rw (a, b, c, d) at q ∙ ends-within (wordOf l v) (wordOf h v) (wordOf m v) (wordOf k v) (o .ends v below)
+
+  pub meets-is : lo ≡ wordOf l v → hi ≡ wordOf h v → lo₂ ≡ wordOf m v → hi₂ ≡ wordOf k v → x ≡ leZ lo hi₂ && leZ lo₂ hi → x ≡ Meets (rowOf l h) (rowOf m k) v
+  meets-is a b c d q = rw (a, b, c, d) at q ∙ overlap-is (wordOf l v) (wordOf h v) (wordOf m v) (wordOf k v) (o .ends v below) (p .ends v below)
+
+-- where they meet, the ends of the met row are in order too
+pub met-is : (a b c d : List ℤ) (s : Row) {n v : ℕ} {x : Bool} {lo hi lo₂ hi₂ : ℤ} → allBelow (Meets (rowOf a b) (rowOf c d)) n ≡ true → v < n
+    → lo ≡ maxZ (wordOf a v) (wordOf c v) → hi ≡ minZ (wordOf b v) (wordOf d v) → lo₂ ≡ wordOf (s .lows) v → hi₂ ≡ wordOf (s .highs) v
+    → x ≡ leZ lo₂ lo && leZ hi hi₂ → x ≡ Lies (metOf a b c d) s v
+met-is a b c d s {n} {v} all below f g h k q =
+    let met = sym (meet-some (wordOf a v) (wordOf b v) (wordOf c v) (wordOf d v)) ∙ allBelow-each (Meets (rowOf a b) (rowOf c d)) n all v below in
     rw (each-is maxZ (max-is (≤ℤ-refl (pos 0))) a c v, each-is minZ (min-is (≤ℤ-refl (pos 0))) b d v)
-    (e ∙ meet-fromTo (wordOf a v) (wordOf b v) (wordOf c v) (wordOf d v))
+    (rw (f, g, h, k) at q
+    ∙ ends-within (maxZ (wordOf a v) (wordOf c v)) (minZ (wordOf b v) (wordOf d v)) (wordOf (s .lows) v) (wordOf (s .highs) v) met)
 
 -- ---- words written
 module _ (ws : List ℤ) {v i : ℕ} (z : ℤ) where
@@ -82,6 +135,17 @@ module _ (ws : List ℤ) (v x : ℕ) {i : ℕ} (a b : ℤ) (l : i < length ws) w
 
   pub written-neither : (i ≡ x → ⊥) → (i ≡ v → ⊥) → wordOf (set (set ws v a) x b) i ≡ wordOf ws i
   written-neither n m = written-other (set ws v a) b n ∙ written-other ws a m
+
+-- ends in order that are written into a row whose ends are
+pub written-ordered : {l h : List ℤ} {n : ℕ} (v : ℕ) (a b : ℤ) → Ordered l h n → leZ a b ≡ true → Ordered (set l v a) (set h v b) n
+written-ordered {l} {h} {n} v a b o e =
+    record { low = rw (length-set l v a) (o .low); high = rw (length-set h v b) (o .high); ends = λ i k. by i k (eqb i v) refl }
+  where
+    by : (i : ℕ) → i < n → (t : Bool) → eqb i v ≡ t → leZ (wordOf (set l v a) i) (wordOf (set h v b) i) ≡ true
+    by i k true q =
+        let same = eqb-true i v q in
+        rw (written-here l a same (omega (arith, o .low)), written-here h b same (omega (arith, o .high))) e
+    by i k false q = let other = eqb-false i v q in rw (written-other l a other, written-other h b other) (o .ends i k)
 
 -- a second word past the end isn't written
 pub written-once : (ws : List ℤ) (v p : ℕ) (a b : ℤ) → length ws ≤ p → set (set ws v a) p b ≡ set ws v a

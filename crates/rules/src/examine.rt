@@ -11,7 +11,8 @@ use crate::range::first_size;
 use crate::range::first_word;
 use crate::rest::first_rest_entry;
 use crate::rest::first_rest_point;
-use crate::start::first_start;
+use crate::start::first_start_point;
+use crate::start::first_start_rest;
 use table::layout::sizes;
 use table::validate::validate;
 use words::Found;
@@ -81,12 +82,11 @@ fn start<'a>(t: &'a [i32], w: &'a [i32]) -> Stage
     ensures { λ r. ⌜ r ≡ startStage (now (t .entry)) (now (w .entry)) (wholeOf (now (t .entry)) (now (w .entry))) ⌝ }
 {
     let scope = whole(t, w);
-    let points = scope.points;
     let rests = scope.rests;
-    if let Found::At(p) = first_start(t, w, points) {
+    if let Found::At(p) = first_start_point(t, w) {
         return Stage::Broken(11, p);
     }
-    if let Found::At(p) = first_start(t, w, rests) {
+    if let Found::At(p) = first_start_rest(t, w, rests) {
         return Stage::Broken(11, p);
     }
     Stage::Passed

@@ -35,6 +35,7 @@ use words::number_at;
 ghost use mathlib.Core.Path.{_≡_};
 ghost use mathlib.Core.Bool.{true, _&&_};
 ghost use Prim.Native.Nat.{_<_, _≤_};
+ghost use Rattle.interval.specs.Interval.{takenOf};
 ghost use Rattle.table.specs.Layout.{sizesOf, pointsOf, nodesOf};
 ghost use Rattle.table.specs.Decode.{pointOf};
 ghost use Rattle.table.specs.Tree.{compare, arithAt, condAt};
@@ -47,7 +48,7 @@ ghost use Rattle.analysis.specs.Cuts.{cutRowOf};
 ghost use Rattle.rules.specs.Proposal.{rowAt};
 ghost use Rattle.rules.specs.Outcomes.{outcomeIf};
 ghost use Rattle.rules.specs.Alarms.{alarmsBy, alarmsAt};
-ghost use Rattle.rules.specs.Ready.{Bounded, Rows, Whole, Ready};
+ghost use Rattle.rules.specs.Ready.{Ordered, Whole, Rows};
 ghost use Rattle.rules.specs.Points.{sideOf, testedOf, fitsBy, fitsAt};
 
 // Where there is no outcome and nothing is written, nothing fails.
@@ -78,11 +79,10 @@ fn assign_fits<'a, 'b>(
     q: usize,
     marks: &'b mut [u8],
 ) -> Fits
-    requires { ⌜ Ready (now t) (now w) ⌝ }
     requires { ⌜ Rows (now t) (now w) (now «all_lows») (now «all_highs») ⌝ }
     requires { ⌜ Whole (now t) (now lows) (now highs) ⌝ }
     requires { ⌜ now nodes ≡ nodesOf (now t) ⌝ }
-    requires { ⌜ q ≤ 4294967295 ⌝ }
+    requires { ⌜ q < sizesOf (now t) .points ⌝ }
     ensures { λ r. ⌜ r ≡ fitsBy (now (t .entry)) (now (w .entry)) (Assign v e q) p s (rowOf (now (lows .entry)) (now (highs .entry))) ⌝ }
     ensures { λ r. ⌜ now (marks .exit) ≡ markedOf (now (marks .entry)) (alarmsBy (now (t .entry)) (Assign v e q) (rowOf (now (lows .entry)) (now (highs .entry)))) ⌝ }
 {
@@ -121,7 +121,8 @@ fn side<'a>(
     row: &'a Row,
 ) -> Fits
     requires { ⌜ Rows (now t) (now w) (now «all_lows») (now «all_highs») ⌝ }
-    requires { ⌜ q ≤ 4294967295 ⌝ }
+    requires { ⌜ Ordered (rowIn (now row) .lows) (rowIn (now row) .highs) (sizesOf (now t) .variables) ⌝ }
+    requires { ⌜ q < sizesOf (now t) .points ⌝ }
     ensures { λ r. ⌜ r ≡ sideOf (now (t .entry)) (now (w .entry)) (outcomeIf (maybeBy some (rowIn (now (row .entry)))) s q) ⌝ }
 {
     if !some {
@@ -168,8 +169,9 @@ fn cut_side<'a>(
 ) -> Fits
     requires { ⌜ Rows (now t) (now w) (now «all_lows») (now «all_highs») ⌝ }
     requires { ⌜ Whole (now t) (now lows) (now highs) ⌝ }
-    requires { ⌜ q ≤ 4294967295 ⌝ }
+    requires { ⌜ q < sizesOf (now t) .points ⌝ }
     requires { ⌜ ((v ≡ x) → (v < 16)) ⌝ }
+    requires { ⌜ (takenOf (u .left) ≡ u .left) × (takenOf (u .right) ≡ u .right) ⌝ }
     ensures { λ r. ⌜ r ≡ sideOf (now (t .entry)) (now (w .entry)) (outcomeIf (cutRowOf (ownOf (rowOf (now (lows .entry)) (now (highs .entry)))) v x u) s q) ⌝ }
 {
     let left = u.left;
@@ -219,7 +221,7 @@ fn compared_fits<'a, 'b>(
 ) -> Fits
     requires { ⌜ Rows (now t) (now w) (now «all_lows») (now «all_highs») ⌝ }
     requires { ⌜ Whole (now t) (now lows) (now highs) ⌝ }
-    requires { ⌜ (y ≤ 4294967295) × (n ≤ 4294967295) ⌝ }
+    requires { ⌜ (y < sizesOf (now t) .points) × (n < sizesOf (now t) .points) ⌝ }
     ensures { λ r. ⌜ r ≡ testedOf (now (t .entry)) (now (w .entry)) (compare 0 k (arithAt (now (nodes .entry)) a) (arithAt (now (nodes .entry)) b)) y n s (rowOf (now (lows .entry)) (now (highs .entry))) ⌝ }
     ensures { λ r. ⌜ now (marks .exit) ≡ markedOf (now (marks .entry)) (condAlarmsOf (compare 0 k (arithAt (now (nodes .entry)) a) (arithAt (now (nodes .entry)) b)) (ownOf (rowOf (now (lows .entry)) (now (highs .entry))))) ⌝ }
 {
@@ -250,7 +252,8 @@ fn split_fits<'a, 'b>(
     marks: &'b mut [u8],
 ) -> Fits
     requires { ⌜ Rows (now t) (now w) (now «all_lows») (now «all_highs») ⌝ }
-    requires { ⌜ (y ≤ 4294967295) × (n ≤ 4294967295) ⌝ }
+    requires { ⌜ Whole (now t) (now lows) (now highs) ⌝ }
+    requires { ⌜ (y < sizesOf (now t) .points) × (n < sizesOf (now t) .points) ⌝ }
     ensures { λ r. ⌜ r ≡ testedOf (now (t .entry)) (now (w .entry)) (condAt (now (nodes .entry)) c) y n s (rowOf (now (lows .entry)) (now (highs .entry))) ⌝ }
     ensures { λ r. ⌜ now (marks .exit) ≡ markedOf (now (marks .entry)) (condAlarmsOf (condAt (now (nodes .entry)) c) (ownOf (rowOf (now (lows .entry)) (now (highs .entry))))) ⌝ }
 {
@@ -282,7 +285,7 @@ fn test_fits<'a, 'b>(
     requires { ⌜ Rows (now t) (now w) (now «all_lows») (now «all_highs») ⌝ }
     requires { ⌜ Whole (now t) (now lows) (now highs) ⌝ }
     requires { ⌜ now nodes ≡ nodesOf (now t) ⌝ }
-    requires { ⌜ (y ≤ 4294967295) × (n ≤ 4294967295) ⌝ }
+    requires { ⌜ (y < sizesOf (now t) .points) × (n < sizesOf (now t) .points) ⌝ }
     ensures { λ r. ⌜ r ≡ fitsBy (now (t .entry)) (now (w .entry)) (Test c y n) p s (rowOf (now (lows .entry)) (now (highs .entry))) ⌝ }
     ensures { λ r. ⌜ now (marks .exit) ≡ markedOf (now (marks .entry)) (alarmsBy (now (t .entry)) (Test c y n) (rowOf (now (lows .entry)) (now (highs .entry)))) ⌝ }
 {
@@ -337,9 +340,9 @@ fn lock_fits<'a>(
     m: usize,
     q: usize,
 ) -> Fits
-    requires { ⌜ Bounded (now t) (now w) ⌝ }
     requires { ⌜ Rows (now t) (now w) (now «all_lows») (now «all_highs») ⌝ }
-    requires { ⌜ (m < 8) × (q ≤ 4294967295) × (s ≤ 4294967295) ⌝ }
+    requires { ⌜ Whole (now t) (now lows) (now highs) ⌝ }
+    requires { ⌜ (m < sizesOf (now t) .mutexes) × (q < sizesOf (now t) .points) × (s ≤ 4294967295) ⌝ }
     ensures { λ r. ⌜ r ≡ fitsBy (now (t .entry)) (now (w .entry)) (Lock m q) p s (rowOf (now (lows .entry)) (now (highs .entry))) ⌝ }
 {
     if has(s, m) {
@@ -381,7 +384,8 @@ fn unlock_fits<'a>(
     q: usize,
 ) -> Fits
     requires { ⌜ Rows (now t) (now w) (now «all_lows») (now «all_highs») ⌝ }
-    requires { ⌜ (m < 8) × (q ≤ 4294967295) ⌝ }
+    requires { ⌜ Whole (now t) (now lows) (now highs) ⌝ }
+    requires { ⌜ (m < 8) × (q < sizesOf (now t) .points) ⌝ }
     ensures { λ r. ⌜ r ≡ fitsBy (now (t .entry)) (now (w .entry)) (Unlock m q) p s (rowOf (now (lows .entry)) (now (highs .entry))) ⌝ }
 {
     if !has(s, m) {
@@ -412,7 +416,6 @@ fn reached_fits<'a, 'b>(
     s: usize,
     marks: &'b mut [u8],
 ) -> Fits
-    requires { ⌜ Ready (now t) (now w) ⌝ }
     requires { ⌜ Rows (now t) (now w) (now «all_lows») (now «all_highs») ⌝ }
     requires { ⌜ now points ≡ pointsOf (now t) ⌝ }
     requires { ⌜ now nodes ≡ nodesOf (now t) ⌝ }
@@ -471,7 +474,6 @@ pub(crate) fn point_fits<'a, 'b>(
     p: usize,
     marks: &'b mut [u8],
 ) -> Fits
-    requires { ⌜ Ready (now t) (now w) ⌝ }
     requires { ⌜ Rows (now t) (now w) (now «all_lows») (now «all_highs») ⌝ }
     requires { ⌜ now points ≡ pointsOf (now t) ⌝ }
     requires { ⌜ now nodes ≡ nodesOf (now t) ⌝ }

@@ -14,7 +14,7 @@ ghost use lib.ListN.{length};
 ghost use Rattle.words.specs.Words.{wordOf, numberOf, numberAt, partOf};
 ghost use Rattle.interval.specs.Interval.{fromTo};
 ghost use Rattle.rules.specs.Proposal.{entriesOf, intervalsOf, headsFrom, lowsFrom, heldOf, headsOf, headOf, lowsOf, highsOf, rowAt, entriesAt, entryLow, entryHigh};
-ghost use Rattle.rules.specs.Ready.{Bounded};
+ghost use Rattle.rules.specs.Ready.{Limits, Bounded};
 
 pub(crate) fn entries(w: &[i32]) -> usize
     ensures { λ r. ⌜ r ≡ entriesOf (now (w .entry)) ⌝ }
@@ -98,7 +98,7 @@ pub(crate) fn lows_from<'a>(t: &'a [i32], w: &'a [i32]) -> usize
 
 // How many intervals there are: those of the rows, and one for each entry.
 pub(crate) fn intervals<'a>(t: &'a [i32], w: &'a [i32]) -> usize
-    requires { ⌜ Bounded (now t) (now w) ⌝ }
+    requires { ⌜ Limits (now t) (now w) ⌝ }
     ensures { λ r. ⌜ r ≡ intervalsOf (now (t .entry)) (now (w .entry)) ⌝ }
     ensures { λ r. ⌜ r ≤ 4736 ⌝ }
 {

@@ -27,13 +27,12 @@ ghost use lib.ListN.{length};
 ghost use lib.Signed.{leZ};
 ghost use Rattle.words.specs.Words.{wordOf};
 ghost use Rattle.table.specs.Layout.{sizesOf, pointsOf};
-ghost use Rattle.table.specs.Passes.{Passes};
 ghost use Rattle.table.specs.declared.Point.the-variants.{Unlock};
 ghost use Rattle.rules.specs.Held.{hasOf};
 ghost use Rattle.rules.specs.Proposal.{entriesOf, heldOf, rowAt};
 ghost use Rattle.rules.specs.Outcomes.{outcomesBy};
 ghost use Rattle.rules.specs.Rules.{implies, rests, restPoint, restEntry, rule16};
-ghost use Rattle.rules.specs.Ready.{Bounded, Rows, Parts, Ready};
+ghost use Rattle.rules.specs.Ready.{Ready, Rows, Parts};
 ghost use Rattle.rules.specs.Examine.{firstBadIn};
 
 // An unlock of m at the point p.
@@ -46,9 +45,8 @@ fn unlock_rests<'a>(
     q: usize,
     p: usize,
 ) -> bool
-    requires { ⌜ Bounded (now t) (now w) ⌝ }
     requires { ⌜ Rows (now t) (now w) (now «all_lows») (now «all_highs») ⌝ }
-    requires { ⌜ (m < 8) × (p ≤ 4294967295) ⌝ }
+    requires { ⌜ (m < sizesOf (now t) .mutexes) × (p < sizesOf (now t) .points) ⌝ }
     ensures { λ r. ⌜ r ≡ rests (now (t .entry)) (now (w .entry)) (Unlock m q) (outcomesBy (now (t .entry)) (now (w .entry)) (Unlock m q) (heldOf (now (w .entry)) p) (rowAt (now (t .entry)) (now (w .entry)) p)) ⌝ }
 {
     if !has(held(w, p), m) {
@@ -72,8 +70,6 @@ fn rest_point<'a>(
     all_highs: &'a [i32],
     p: usize,
 ) -> bool
-    requires { ⌜ Passes (now t) ⌝ }
-    requires { ⌜ Bounded (now t) (now w) ⌝ }
     requires { ⌜ now points ≡ pointsOf (now t) ⌝ }
     requires { ⌜ Rows (now t) (now w) (now «all_lows») (now «all_highs») ⌝ }
     requires { ⌜ p < sizesOf (now t) .points ⌝ }
@@ -142,7 +138,6 @@ fn rest_entry<'a>(
     all_highs: &'a [i32],
     i: usize,
 ) -> bool
-    requires { ⌜ Ready (now t) (now w) ⌝ }
     requires { ⌜ Parts (now t) (now w) (now heads) (now from) (now to) (now «all_lows») (now «all_highs») ⌝ }
     requires { ⌜ i < entriesOf (now w) ⌝ }
     ensures { λ r. ⌜ r ≡ restEntry (now (t .entry)) (now (w .entry)) i ⌝ }

@@ -15,7 +15,7 @@ use Rattle.words.proofs.StageLaws.{pass, halt, pass-if, halt-if}
 use Rattle.rules.specs.Proposal.{proposalLength}
 use Rattle.rules.specs.Rules.{rule8}
 use Rattle.rules.specs.Examine.{layoutStage}
-use Rattle.rules.proofs.ReadyLaws.{bounded}
+use Rattle.rules.proofs.ReadyLaws.{sizes-limited}
 use Rattle.rules.proofs.examine.layout.Statement.{statement}
 use Rattle.rules.proofs.examine.layout.Tie as tie
 
@@ -66,7 +66,7 @@ layout-spec =
     size-broken
     (λ c. search needs)
     (λ c κs. search needs)
-    (λ c κs. let sizes = c .before in bounded (sizes .before .before .before .before .pre) (sized sizes))
+    (λ c κs. let sizes = c .before in sizes-limited (sizes .before .before .before .before .pre) (sized sizes))
     (λ c. search needs)
     (λ c. search needs)
     length-broken

@@ -9,6 +9,7 @@ use Rattle.analysis.specs.Rows.{rowOf}
 use Rattle.analysis.specs.Analysis.{condAlarmsOf}
 use Rattle.analysis.proofs.CutLaws.{slots-differ}
 use Rattle.analysis.proofs.WalkLaws.{marked-then}
+use Rattle.rules.proofs.OrderedLaws.{cuts-taken}
 use Rattle.rules.proofs.PointLaws.{compared-side, both-fit}
 use Rattle.rules.proofs.point.compared_fits.Statement.{statement}
 use Rattle.rules.proofs.point.compared_fits.Tie as tie
@@ -56,11 +57,11 @@ compared-fits-spec =
     (λ c κs.
     let at = c .before .before in
     let pre = at .before .before .before .before .before .before .before .before .before .before .before .pre in
-    (pre .0, (pre .1 .0, (pre .1 .1 .0, differ at))))
+    (pre .0, (pre .1 .0, (pre .1 .1 .0, (differ at, cuts-taken _ _ _ _ (c .before .cuts .ensures))))))
     (λ c κs.
     let at = c .before .before .before in
     let pre = at .before .before .before .before .before .before .before .before .before .before .before .pre in
-    (pre .0, (pre .1 .0, (pre .1 .1 .1, differ at))))
+    (pre .0, (pre .1 .0, (pre .1 .1 .1, (differ at, cuts-taken _ _ _ _ (c .before .cuts2 .ensures))))))
     (λ c κs. search needs)
     (λ c. let right = c .before .before .before .before .before .before .before .before in right .marks2 .given ∙ right .before .before .before .before .marks .given)
     returns)

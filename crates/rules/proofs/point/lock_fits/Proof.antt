@@ -1,9 +1,42 @@
 -- `rules::point::lock_fits` meets its contract: there is an outcome where the mutex isn't held and its rest row meets the row. Assumes nothing.
+use native.Mathlib.Omega.{arith}
 use borrow.Author.Needs.{needs}
-use Rattle.words.proofs.Bools.{holds, fails}
+use Rattle.words.proofs.Bools.{holds, fails, holds-not}
+use Rattle.rules.proofs.PartsLaws.{row-ordered}
 use Rattle.rules.proofs.PointLaws.{lock-held, lock-apart, lock-met}
 use Rattle.rules.proofs.point.lock_fits.Statement.{statement}
 use Rattle.rules.proofs.point.lock_fits.Tie as tie
+
+-- the ends of the point's row, and of the mutex's rest row, are in order
+meets-fits : tie.Need-meets-requires
+meets-fits c κs =
+    let lows = c .before in
+    let points = lows .before in
+    let pre = points .before .before .before .before .pre in
+    let size = points .before .number-at .ensures .0 in
+    let e = points .number-at2 .ensures .0 in (
+      rw size (pre .1 .0 .ordered),
+      row-ordered (pre .0 .ready) _ (omega (arith, e, pre .1 .1 .0)) size (lows .row-lows .ensures) (c .row-highs .ensures),
+    )
+
+-- and those of the target's row; where the rows meet, so are the met ends
+met-fits : tie.Need-met-within-requires
+met-fits c κs =
+    let to-lows = c .before in
+    let held = to-lows .before .before in
+    let met = held .before .before in
+    let rests = meets-fits (met .before) κs in
+    let points = met .before .before .before in
+    let pre = points .before .before .before .before .pre in (
+      rests .0,
+      (
+        rests .1,
+        (
+          row-ordered (pre .0 .ready) _ (omega (arith, pre .1 .1 .1)) (points .before .number-at .ensures .0) (to-lows .row-lows2 .ensures) (c .row-highs2 .ensures),
+          holds-not (met .meets .ensures) (held .before .if2 .left),
+        ),
+      ),
+    )
 
 apart : tie.Need-returns-2
 apart c =
@@ -47,12 +80,12 @@ lock-fits-spec =
     (λ c. search needs)
     (λ c κs. search needs)
     (λ c κs. search needs)
-    (λ c κs. search needs)
+    meets-fits
     (λ c κs. search needs)
     apart
     (λ c κs. search needs)
     (λ c κs. search needs)
     (λ c κs. search needs)
     (λ c κs. search needs)
-    (λ c κs. search needs)
+    met-fits
     met)

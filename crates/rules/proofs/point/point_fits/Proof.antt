@@ -13,7 +13,7 @@ requires : tie.Need-reached-fits-requires
 requires c κs =
     let held = c .before .before .before in
     let pre = held .before .before .pre in
-    (pre .0, (pre .1 .0, (pre .1 .1 .0, (pre .1 .1 .1 .0, (pre .1 .1 .1 .1, held .held .ensures .1)))))
+    (pre .0, (pre .1 .0, (pre .1 .1 .0, (pre .1 .1 .1, held .held .ensures .1))))
 
 returns-2 : tie.Need-returns-2
 returns-2 c =

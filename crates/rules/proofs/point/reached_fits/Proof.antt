@@ -16,7 +16,7 @@ use Rattle.rules.specs.Points.{fitsBy}
 use Rattle.rules.specs.Ready.{Whole}
 use Rattle.rules.proofs.PartsLaws.{row-whole}
 use Rattle.rules.proofs.PointLaws.{Reached, stands, end-fits}
-use Rattle.rules.proofs.ReadyLaws.{formed, target-fits, mutex-fits}
+use Rattle.rules.proofs.ReadyLaws.{formed, mutex-fits}
 use Rattle.rules.proofs.point.reached_fits.Statement.{statement}
 use Rattle.rules.proofs.point.reached_fits.Tie as tie
 
@@ -34,17 +34,17 @@ arm :
     → m′ ≡ markedOf (now (a .marks)) (alarmsBy (now (a .t)) x (row c)) → Reached (now (a .t)) (now (a .w)) (a .p) (a .s) (now (a .marks)) y m′
 arm c e f g =
     let highs = c .before in
-    stands _ _ _ _ _ (highs .before .row-lows .ensures) (highs .row-highs .ensures) (start c .pre .1 .1 .0) (c .point-at .ensures) e f g
+    stands _ _ _ _ _ (highs .before .row-lows .ensures) (highs .row-highs .ensures) (start c .pre .1 .0) (c .point-at .ensures) e f g
 
 names : (c : tie.After-point-at) {x : Point} → let s = start c in c .point-at .result ≡ x → FormedPoint (now (s .args .t)) (s .args .p) x
-names c e = let pre = start c .pre in formed (pre .0 .passes) _ (pre .1 .1 .1 .1 .0) (pre .1 .1 .0) (c .point-at .ensures) e
+names c e = let pre = start c .pre in formed (pre .0 .ready .passes) _ (pre .1 .1 .1 .0) (pre .1 .0) (c .point-at .ensures) e
 
 -- all ends of its row are there
 whole : (c : tie.After-point-at) → Whole (now (start c .args .t)) (now (c .before .before .row-lows .result)) (now (c .before .row-highs .result))
 whole c =
     let pre = start c .pre in
     let highs = c .before in
-    row-whole (pre .0) _ (omega (arith, pre .1 .1 .1 .1 .0)) (highs .before .row-lows .ensures) (highs .row-highs .ensures)
+    row-whole (pre .0 .ready) _ (omega (arith, pre .1 .1 .1 .0)) (highs .before .row-lows .ensures) (highs .row-highs .ensures)
 
 assign-requires : tie.Need-assign-fits-requires
 unfolding FormedPoint
@@ -52,8 +52,7 @@ assign-requires c κs =
     let x = c .before .before in
     let at = x .before .before in
     let pre = start at .pre in
-    let passes = pre .0 .passes in
-    (pre .0, (pre .1 .0, (whole at, (pre .1 .1 .1 .0, target-fits passes (names at (x .x .given .1) .2)))))
+    (pre .0, (whole at, (pre .1 .1 .0, names at (x .x .given .1) .2 .point)))
 
 test-requires : tie.Need-test-fits-requires
 unfolding FormedPoint
@@ -61,9 +60,8 @@ test-requires c κs =
     let x = c .before .before in
     let at = x .before .before in
     let pre = start at .pre in
-    let passes = pre .0 .passes in
     let named = names at (x .x2 .given .1) in
-    (pre .1 .0, (whole at, (pre .1 .1 .1 .0, (target-fits passes (named .1), target-fits passes (named .2)))))
+    (pre .0, (whole at, (pre .1 .1 .0, (named .1 .point, named .2 .point))))
 
 lock-requires : tie.Need-lock-fits-requires
 unfolding FormedPoint
@@ -71,9 +69,8 @@ lock-requires c κs =
     let x = c .before in
     let at = x .before .before in
     let pre = start at .pre in
-    let passes = pre .0 .passes in
     let named = names at (x .x3 .given .1) in
-    (pre .0 .bounded, (pre .1 .0, (mutex-fits passes (named .0), target-fits passes (named .1), pre .1 .1 .1 .1 .1)))
+    (pre .0, (whole at, (named .0, named .1 .point, pre .1 .1 .1 .1)))
 
 unlock-requires : tie.Need-unlock-fits-requires
 unfolding FormedPoint
@@ -81,9 +78,8 @@ unlock-requires c κs =
     let x = c .before in
     let at = x .before .before in
     let pre = start at .pre in
-    let passes = pre .0 .passes in
     let named = names at (x .x4 .given .1) in
-    (pre .1 .0, (mutex-fits passes (named .0), target-fits passes (named .1)))
+    (pre .0, (whole at, (mutex-fits (pre .0 .ready .passes) (named .0), named .1 .point)))
 
 pub reached-fits-spec : {M : Type 1} → statement M
 unfolding alarmsBy markedOf

@@ -1,5 +1,7 @@
 -- `rules::point::side` meets its contract: the answer decides whether there is an outcome, and its row and held word are tested. Assumes nothing.
+use native.Mathlib.Omega.{arith}
 use borrow.Author.Needs.{needs}
+use Rattle.rules.proofs.PartsLaws.{row-ordered}
 use Rattle.rules.proofs.PointLaws.{side-none, side-some}
 use Rattle.rules.proofs.point.side.Statement.{statement}
 use Rattle.rules.proofs.point.side.Tie as tie
@@ -16,6 +18,19 @@ some-left c =
     (record { variables = c .before .number-at .ensures .0; low = lows .row-lows .ensures; high = highs .row-highs .ensures })
     within
 
+-- the ends of both rows are in order
+fits : tie.Need-row-within-requires
+fits c κs =
+    let highs = c .before in
+    let lows = highs .before in
+    let own-highs = lows .before in
+    let own-lows = own-highs .before .before in
+    let pre = own-lows .before .before .before .before .pre in
+    let size = c .number-at .ensures .0 in (
+      rw (own-lows .low-ends .ensures, own-highs .high-ends .ensures, size) (pre .1 .0),
+      row-ordered (pre .0 .ready) _ (omega (arith, pre .1 .1)) size (lows .row-lows .ensures) (highs .row-highs .ensures),
+    )
+
 pub side-spec : {M : Type 1} → statement M
 side-spec =
     tie.close
@@ -28,5 +43,5 @@ side-spec =
     (λ c κs. search needs)
     (λ c κs. search needs)
     (λ c κs. search needs)
-    (λ c κs. search needs)
+    fits
     some-left)

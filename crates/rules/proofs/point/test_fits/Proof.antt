@@ -48,7 +48,7 @@ test-fits-spec =
     let pre = first .before .before .before .pre in
     let ends = pre .1 .1 .1 in
     let most = picked-most (first .before .bare .result .turned) _ _ (first .other-if .ensures) (second .other-if2 .ensures) in
-    (pre .0, (omega arith, omega arith)))
+    (pre .0, (pre .1 .0, (omega arith, omega arith))))
     (λ c. search needs)
     compared
     (λ c. search needs)

@@ -1,9 +1,22 @@
 -- `rules::point::unlock_fits` meets its contract: there is an outcome where the mutex is held, with the same row. Assumes nothing.
+use native.Mathlib.Omega.{arith}
 use borrow.Author.Needs.{needs}
 use Rattle.words.proofs.Bools.{fails-not, holds-not}
+use Rattle.rules.proofs.PartsLaws.{row-ordered}
 use Rattle.rules.proofs.PointLaws.{unlock-free, unlock-held}
 use Rattle.rules.proofs.point.unlock_fits.Statement.{statement}
 use Rattle.rules.proofs.point.unlock_fits.Tie as tie
+
+-- the ends of both rows are in order
+fits : tie.Need-row-within-requires
+fits c κs =
+    let highs = c .before in
+    let lows = highs .before in
+    let pre = lows .before .before .before .before .before .pre in
+    let size = c .number-at .ensures .0 in (
+      rw size (pre .1 .0 .ordered),
+      row-ordered (pre .0 .ready) _ (omega (arith, pre .1 .1 .1)) size (lows .row-lows .ensures) (highs .row-highs .ensures),
+    )
 
 given-back : tie.Need-returns-2
 given-back c =
@@ -28,5 +41,5 @@ unlock-fits-spec =
     (λ c κs. search needs)
     (λ c κs. search needs)
     (λ c κs. search needs)
-    (λ c κs. search needs)
+    fits
     given-back)

@@ -23,11 +23,8 @@ requires c κs =
     let lows = highs .before in
     let nodes = lows .before in
     let pre = to-start highs .pre in (
-      pre .0,
-      (
-        record { lows = lows .lows .ensures; highs = highs .highs .ensures },
-        (nodes .before .point-words .ensures, (nodes .node-words .ensures, omega (arith, pre .1 .1, c .before .if1 .taken))),
-      ),
+      record { ready = pre .0; lows = lows .lows .ensures; highs = highs .highs .ensures },
+      (nodes .before .point-words .ensures, (nodes .node-words .ensures, omega (arith, pre .1 .1, c .before .if1 .taken))),
     )
 
 loop-again : tie.Need-loop-again Inv-loop μ-loop

@@ -2,7 +2,7 @@
 use native.Mathlib.Omega.{arith}
 use borrow.Author.Needs.{needs}
 use Rattle.rules.specs.Proposal.{entriesAt}
-use Rattle.rules.proofs.ProposalLaws.{rows-bound}
+use Rattle.rules.proofs.ProposalLaws.{limits, rows-bound}
 use Rattle.rules.proofs.proposal.entry_lows.Statement.{statement}
 use Rattle.rules.proofs.proposal.entry_lows.Tie as tie
 
@@ -13,7 +13,7 @@ entry-lows-spec =
     (tie.spec
     (λ c κs. search needs)
     (λ c. search needs)
-    (λ c. let s = c .before .before in rw (s .sizes .ensures .0) (omega (arith, rows-bound (s .before .pre))))
+    (λ c. let s = c .before .before in rw (s .sizes .ensures .0) (omega (arith, rows-bound (limits (s .before .pre)))))
     (λ c κs. search needs)
     (λ c κs. search needs)
     (λ c κs. search needs)

@@ -10,4 +10,4 @@ ends-ok-spec =
     (tie.spec
     (λ c κs. search needs)
     (λ c κs. search needs)
-    (λ c. rw (handed32 (c .before .word .ensures) (c .before .word .ok), handed32 (c .word2 .ensures) (c .word2 .ok))))
+    (λ c. rw (handed32 (c .before .word-at .ensures) (c .before .word-at .ok), handed32 (c .word-at2 .ensures) (c .word-at2 .ok))))

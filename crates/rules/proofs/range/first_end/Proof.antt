@@ -9,6 +9,7 @@ use Rattle.words.proofs.Bools.{fails-not, holds-not}
 use Rattle.words.proofs.FirstLaws.{Searched, stop, done}
 use Rattle.rules.specs.Proposal.{lowsFrom}
 use Rattle.rules.specs.Rules.{rule9}
+use Rattle.rules.proofs.PartsLaws.{lows-length, highs-length}
 use Rattle.rules.proofs.RangeLaws.{tested-end, ends-start, ends-next}
 use Rattle.rules.proofs.range.first_end.Statement.{statement}
 use Rattle.rules.proofs.range.first_end.Tie as tie
@@ -22,6 +23,15 @@ abbrev μ-loop : tie.MeasureT-loop
 -- to where the ends begin
 abbrev to-ends : tie.After-intervals Inv-loop μ-loop → tie.After-lows-from Inv-loop μ-loop
 to-ends c = c .before .before .before
+
+-- both ends are there
+requires : tie.Need-ends-ok-requires Inv-loop μ-loop
+requires c κs =
+    let sizes = c .before .before in
+    let highs = sizes .before in
+    let bounded = to-ends sizes .before .pre .0 in
+    let below = rw (sizes .intervals .ensures .0) at (c .loop-test .taken) in
+    (rw (highs .before .lows .ensures, lows-length bounded) below, rw (highs .highs .ensures, highs-length bounded) below)
 
 -- what was tested is the refusal at a word
 tested : (c : tie.After-ends-ok Inv-loop μ-loop) → let loop = c .before .before in let a = to-ends (loop .before) .before .args in
@@ -57,7 +67,7 @@ first-end-spec =
     (λ c κs. search needs)
     (λ c κs. search needs)
     (λ c. ends-start _ _ (to-ends c .before .pre .1))
-    (λ c κs. search needs)
+    requires
     (λ c. omega (arith, to-ends (c .before .before .before .before) .lows-from .ensures .1, c .before .before .before .before .intervals .ensures .1, c .before .before .loop-test .taken))
     returns
     (λ c. search needs)

@@ -34,7 +34,7 @@ at-hand c =
     let from = to .before in
     record {
       apart = record { heads = from .before .heads .ensures; lows = from .entry-lows .ensures; highs = to .entry-highs .ensures };
-      rows = record { lows = lows .lows .ensures; highs = c .highs .ensures };
+      rows = record { ready = to-start c .pre .0; lows = lows .lows .ensures; highs = c .highs .ensures };
     }
 
 -- no place is a point
@@ -46,7 +46,7 @@ requires : tie.Need-rest-entry-requires Inv-loop μ-loop
 requires c κs =
     let points = c .before .before .before in
     let pre = to-start (points .before) .pre in
-    (pre .0, (at-hand (points .before), omega (arith, points .number-at .ensures .0, past-points c, c .if1 .taken, pre .1 .2)))
+    (at-hand (points .before), omega (arith, points .number-at .ensures .0, past-points c, c .if1 .taken, pre .1 .2))
 
 tested : (c : tie.After-rest-entry Inv-loop μ-loop) → let loop = c .before .before .before in let a = to-start (loop .before .before) .args in
     c .rest-entry .result ≡ rule16 (now (a .t)) (now (a .w)) (loop .loop .place)

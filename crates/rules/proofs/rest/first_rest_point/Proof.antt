@@ -30,13 +30,7 @@ requires : tie.Need-rest-point-requires Inv-loop μ-loop
 requires c κs =
     let highs = c .before .before .before in
     let lows = highs .before in
-    let ready = to-start c .pre .0 in (
-      ready .passes,
-      (
-        ready .bounded,
-        (lows .before .point-words .ensures, (record { lows = lows .lows .ensures; highs = highs .highs .ensures }, is-point c)),
-      ),
-    )
+    (lows .before .point-words .ensures, (record { ready = to-start c .pre .0; lows = lows .lows .ensures; highs = highs .highs .ensures }, is-point c))
 
 tested : (c : tie.After-rest-point Inv-loop μ-loop) → let a = to-start (c .before) .args in
     c .rest-point .result ≡ rule16 (now (a .t)) (now (a .w)) (c .before .before .before .loop .p)

@@ -34,8 +34,8 @@ to-start c = c .before .before .before .before .before
 there : (c : tie.Start Inv-loop μ-loop) → let a = c .args in let row = rowAt (now (a .t)) (now (a .w)) 0 in
     Readable (now (a .heads)) (now (a .from)) (now (a .to)) (row .lows) (row .highs) (a .i)
 there c =
-    let ready = c .pre .0 in
-    readable ready 0 _ (c .pre .1 .0 .apart) refl refl (omega (arith, ready .passes .points .low)) (c .pre .1 .1)
+    let ready = c .pre .0 .rows .ready in
+    readable ready 0 _ (c .pre .0 .apart) refl refl (omega (arith, ready .passes .points .low)) (c .pre .1)
 
 natural-requires : tie.Need-natural-requires Inv-loop μ-loop
 natural-requires c κs =
@@ -43,14 +43,14 @@ natural-requires c κs =
 
 -- the words of the head
 set-is : (c : tie.After-head-in Inv-loop μ-loop) → let a = c .before .args in c .head-in .result ≡ headOf (now (a .t)) (now (a .w)) (a .i) 1
-set-is c = c .head-in .ensures .0 ∙ head-at (c .before .pre .1 .0 .apart) (c .before .args .i) 1
+set-is c = c .head-in .ensures .0 ∙ head-at (c .before .pre .0 .apart) (c .before .args .i) 1
 
 variable-is : (c : tie.After-natural Inv-loop μ-loop) → let a = c .before .before .before .args in
     c .natural .result ≡ headOf (now (a .t)) (now (a .w)) (a .i) 2
 variable-is c =
     let start = c .before .before .before in
     c .natural .ensures ∙ ap numberOf (read-back (c .before .word-at .ok) ∙ c .before .word-at .ensures)
-    ∙ head-at (start .pre .1 .0 .apart) (start .args .i) 2
+    ∙ head-at (start .pre .0 .apart) (start .args .i) 2
 
 -- m is a mutex
 is-mutex : (c : tie.In-loop Inv-loop μ-loop) → let mutexes = c .before .before .before in
@@ -74,14 +74,15 @@ index-fits : (c : tie.In-loop Inv-loop μ-loop) → let points = c .before .befo
     (points .number-at3 .result + c .before .loop .m) * variables .number-at .result + variables .before .before .before .natural .result < 4736
 index-fits c =
     let start = to-start (c .before .before .before .before .before) in
-    at-bound (start .pre .0) _ _ (head-variable (start .pre .0) _ (start .pre .1 .1)) (index-is c) (omega (arith, is-mutex c))
+    let ready = start .pre .0 .rows .ready in
+    at-bound ready _ _ (head-variable ready _ (start .pre .1)) (index-is c) (omega (arith, is-mutex c))
 
 requires : tie.Need-rests-at-requires Inv-loop μ-loop
 requires c κs =
     let start = to-start (c .before .before .before .before .before) in
-    let ready = start .pre .0 in
-    let rows = start .pre .1 .0 .rows in
-    let variable = head-variable ready _ (start .pre .1 .1) in (
+    let rows = start .pre .0 .rows in
+    let ready = rows .ready in
+    let variable = head-variable ready _ (start .pre .1) in (
       omega (arith, is-mutex c, ready .bounded .mutexes),
       (
         low-there ready _ _ variable (index-is c) (omega (arith, is-mutex c)) (rows .lows),
@@ -106,7 +107,7 @@ tested c =
       variables .number-at .ensures .0,
       variable-is v,
     ) at (c .rests-at .ensures)
-    ∙ entry-tested (start .pre .0) (start .pre .1 .0) _ _ (start .pre .1 .1) (is-mutex (c .before))
+    ∙ entry-tested (start .pre .0) _ _ (start .pre .1) (is-mutex (c .before))
 
 returns : tie.Need-returns Inv-loop μ-loop
 unfolding restEntry

@@ -1,7 +1,6 @@
 -- `rules::rest::rest_point` meets its contract: a point that isn't reached passes, and so does any but an unlock. Assumes nothing.
 use mathlib.Core.Path.{_≡_, refl, sym, _∙_}
 use mathlib.Core.Bool.{Bool}
-use native.Mathlib.Omega.{arith}
 use borrow.Author.Needs.{needs}
 use denote.Ref.{now}
 use Rattle.table.specs.Layout.{pointsOf}
@@ -12,14 +11,14 @@ use Rattle.words.proofs.Bools.{fails-not, holds-not}
 use Rattle.rules.specs.Proposal.{heldOf, rowAt}
 use Rattle.rules.specs.Outcomes.{outcomesBy}
 use Rattle.rules.specs.Rules.{rests, restPoint}
-use Rattle.rules.proofs.RestLaws.{unlock-below, not-reached, reached}
+use Rattle.rules.proofs.RestLaws.{unlock-names, not-reached, reached}
 use Rattle.rules.proofs.rest.rest_point.Statement.{statement}
 use Rattle.rules.proofs.rest.rest_point.Tie as tie
 
 -- what was read at the point, and the test of what stands there
 read : (c : tie.After-point-at) → let start = c .before .before .before .before .args in
     c .point-at .result ≡ pointOf (pointsOf (now (start .t))) (start .p)
-read c = rw (c .before .before .before .before .pre .1 .1 .0) at (c .point-at .ensures)
+read c = rw (c .before .before .before .before .pre .0) at (c .point-at .ensures)
 
 at : (c : tie.After-point-at) {b : Bool} (x : Point) → let start = c .before .before .before .before .args in
     c .point-at .result ≡ x
@@ -34,8 +33,8 @@ unlock-rests-requires : tie.Need-unlock-rests-requires
 unlock-rests-requires c κs =
     let point = c .before .before .before in
     let pre = point .before .before .before .before .pre in
-    let below = pre .1 .1 .1 .1 in
-    (pre .1 .0, (pre .1 .1 .1 .0, (unlock-below _ _ (pre .0) below (sym (read point) ∙ c .before .x .given .1), omega (arith, below, pre .1 .0 .points))))
+    let below = pre .1 .1 in
+    (pre .1 .0, (unlock-names _ _ (pre .1 .0 .ready .passes) below (sym (read point) ∙ c .before .x .given .1), below))
 
 returns : tie.Need-returns
 returns c =

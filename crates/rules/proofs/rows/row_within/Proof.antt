@@ -1,13 +1,15 @@
 -- `rules::rows::row_within` meets its contract: the loop is left at the first interval that isn't within the other row's, or past the last.
 -- Assumes nothing.
 use Prim.Native.Nat.{_-_}
-use mathlib.Core.Path.{sym}
+use mathlib.Core.Path.{_≡_, sym, _∙_}
 use borrow.Author.Needs.{needs}
+use denote.Ref.{now}
 use Rattle.words.proofs.Bools.{fails-not, holds-not}
 use Rattle.words.proofs.FirstLaws.{Checked, check, checks, checked}
+use Rattle.words.proofs.Signed.{read-back}
 use Rattle.analysis.specs.Rows.{rowOf}
 use Rattle.rules.specs.Outcomes.{rowWithinOf}
-use Rattle.rules.proofs.RowLaws.{Lies, within-is, fails-in}
+use Rattle.rules.proofs.RowLaws.{Lies, lies-is, fails-in}
 use Rattle.rules.proofs.rows.row_within.Statement.{statement}
 use Rattle.rules.proofs.rows.row_within.Tie as tie
 
@@ -17,22 +19,34 @@ Inv-loop a-lows a-highs b-lows b-highs variables v₀ v = Checked (Lies (rowOf a
 abbrev μ-loop : tie.MeasureT-loop
 μ-loop a-lows a-highs b-lows b-highs variables v₀ v = variables - v
 
+-- from the test to the turn
+abbrev to-turn : tie.After-is-inside Inv-loop μ-loop → tie.In-loop Inv-loop μ-loop
+to-turn c = c .before .before .before .before .before
+
+-- the test at v, by the ends that were read
+tested : (c : tie.After-is-inside Inv-loop μ-loop) → let loop = to-turn c .before in let a = loop .before .args in
+    c .is-inside .result ≡ Lies (rowOf (now (a .a-lows)) (now (a .a-highs))) (rowOf (now (a .b-lows)) (now (a .b-highs))) (loop .loop .v)
+tested c =
+    let b-high = c .before in
+    let b-low = b-high .before in
+    let a-high = b-low .before in
+    let a-low = a-high .before in
+    let turn = to-turn c in
+    let pre = turn .before .before .pre in
+    lies-is (pre .0) (pre .1) (turn .loop-test .taken) (read-back (a-low .word-at .ok) ∙ a-low .word-at .ensures)
+    (read-back (a-high .word-at2 .ok) ∙ a-high .word-at2 .ensures) (read-back (b-low .word-at3 .ok) ∙ b-low .word-at3 .ensures)
+    (read-back (b-high .word-at4 .ok) ∙ b-high .word-at4 .ensures) (c .is-inside .ensures)
+
 outside : tie.Need-returns Inv-loop μ-loop
 unfolding rowWithinOf
 outside c =
-    let test = c .before in
-    let b = test .before in
-    let a = b .before in
-    fails-in (a .before .before .loop .inv) (a .before .loop-test .taken)
-    (fails-not (within-is (test .within .ensures) (a .range .ensures) (b .range2 .ensures)) (c .if1 .taken))
+    let turn = to-turn (c .before) in
+    fails-in (turn .before .loop .inv) (turn .loop-test .taken) (fails-not (tested (c .before)) (c .if1 .taken))
 
 inside : tie.Need-loop-again Inv-loop μ-loop
 inside c =
-    let test = c .before in
-    let b = test .before in
-    let a = b .before in
-    checks (a .before .before .loop .inv) (a .before .loop-test .taken)
-    (holds-not (within-is (test .within .ensures) (a .range .ensures) (b .range2 .ensures)) (c .if1 .left))
+    let turn = to-turn (c .before) in
+    checks (turn .before .loop .inv) (turn .loop-test .taken) (holds-not (tested (c .before)) (c .if1 .left))
 
 pub row-within-spec : {M : Type 1} → statement M
 unfolding rowWithinOf
@@ -42,6 +56,8 @@ row-within-spec =
     Inv-loop
     μ-loop
     (λ c. check)
+    (λ c κs. search needs)
+    (λ c κs. search needs)
     (λ c κs. search needs)
     (λ c κs. search needs)
     (λ c κs. search needs)

@@ -1,16 +1,19 @@
 -- `rules::rows::written_within` meets its contract: the loop is left at the first interval that isn't within the other row's, or past the last.
 -- The ends to be written are handed on by their bits, and read back after the loop. Assumes nothing.
 use Prim.Native.Nat.{_-_}
-use mathlib.Core.Path.{sym}
+use mathlib.Core.Path.{_≡_, sym, _∙_}
 use borrow.Author.Needs.{needs}
+use denote.Ref.{now}
 use mir.Syntax.{w32}
-use mir.Val.{toZ}
+use mir.Val.{toZ, ofZ}
 use mir.Facts.{toZ-ofZ}
 use Rattle.words.proofs.Bools.{fails-not, holds-not}
 use Rattle.words.proofs.FirstLaws.{Checked, check, checks, checked}
-use Rattle.analysis.specs.Rows.{rowOf}
+use Rattle.words.proofs.Signed.{read-back}
+use Rattle.analysis.specs.Rows.{Row, rowOf}
 use Rattle.rules.specs.Outcomes.{rowWithinOf}
-use Rattle.rules.proofs.RowLaws.{between-is, Lies, within-is, fails-in, writtenRow}
+use Rattle.rules.specs.Ready.{Ordered}
+use Rattle.rules.proofs.RowLaws.{Lies, lies-is, fails-in, written-ordered, writtenRow}
 use Rattle.rules.proofs.rows.written_within.Statement.{statement}
 use Rattle.rules.proofs.rows.written_within.Tie as tie
 
@@ -21,33 +24,50 @@ Inv-loop a-lows a-highs at low high last last-low last-high b-lows b-highs varia
 abbrev μ-loop : tie.MeasureT-loop
 μ-loop a-lows a-highs at low high last last-low last-high b-lows b-highs variables v₀ v = variables - v
 
+-- from the test to the turn
+abbrev to-turn : tie.After-is-inside Inv-loop μ-loop → tie.In-loop Inv-loop μ-loop
+to-turn c = c .before .before .before .before .before
+
+-- the row with what is written, as the loop hands it on
+abbrev written : tie.Start Inv-loop μ-loop → Row
+written c =
+    let a = c .args in
+    writtenRow (now (a .a-lows)) (now (a .a-highs)) (a .at) (toZ w32 (ofZ w32 (a .low))) (toZ w32 (ofZ w32 (a .high))) (a .last)
+    (toZ w32 (ofZ w32 (a .last-low))) (toZ w32 (ofZ w32 (a .last-high)))
+
+in-order : (c : tie.Start Inv-loop μ-loop) → Ordered (written c .lows) (written c .highs) (c .args .variables)
+in-order c =
+    let fits = c .fits in
+    let pre = c .pre in
+    rw (toZ-ofZ (fits .low), toZ-ofZ (fits .high), toZ-ofZ (fits .last-low), toZ-ofZ (fits .last-high))
+    (written-ordered _ _ _ (written-ordered _ _ _ (pre .0) (pre .1 .0 .0)) (pre .1 .0 .1))
+
+-- the test at v, by the ends that were read
+tested : (c : tie.After-is-inside Inv-loop μ-loop) → let loop = to-turn c .before in let a = loop .before .args in
+    c .is-inside .result ≡ Lies (written (loop .before)) (rowOf (now (a .b-lows)) (now (a .b-highs))) (loop .loop .v)
+tested c =
+    let b-high = c .before in
+    let b-low = b-high .before in
+    let high = b-low .before in
+    let low = high .before in
+    let turn = to-turn c in
+    let start = turn .before .before in
+    lies-is (in-order start) (start .pre .1 .1) (turn .loop-test .taken) (read-back (low .written-word .ok) ∙ low .written-word .ensures)
+    (read-back (high .written-word2 .ok) ∙ high .written-word2 .ensures) (read-back (b-low .word-at .ok) ∙ b-low .word-at .ensures)
+    (read-back (b-high .word-at2 .ok) ∙ b-high .word-at2 .ensures) (c .is-inside .ensures)
+
 outside : tie.Need-returns Inv-loop μ-loop
 unfolding rowWithinOf
 outside c =
-    let test = c .before in
-    let other = test .before in
-    let written = other .before in
-    let high = written .before .written-word2 in
-    let low = written .before .before .written-word in
-    let turn = written .before .before .before in
+    let turn = to-turn (c .before) in
     let fits = turn .before .before .fits in
-    let x = between-is (written .between .ensures) (low .ensures) (low .ok) (high .ensures) (high .ok) in
-    let fails =
-    fails-in (turn .before .loop .inv) (turn .loop-test .taken)
-    (fails-not (within-is (test .within .ensures) x (other .range .ensures)) (c .if1 .taken)) in
+    let fails = fails-in (turn .before .loop .inv) (turn .loop-test .taken) (fails-not (tested (c .before)) (c .if1 .taken)) in
     rw (toZ-ofZ (fits .low), toZ-ofZ (fits .high), toZ-ofZ (fits .last-low), toZ-ofZ (fits .last-high)) at fails
 
 inside : tie.Need-loop-again Inv-loop μ-loop
 inside c =
-    let test = c .before in
-    let other = test .before in
-    let written = other .before in
-    let high = written .before .written-word2 in
-    let low = written .before .before .written-word in
-    let turn = written .before .before .before in
-    let x = between-is (written .between .ensures) (low .ensures) (low .ok) (high .ensures) (high .ok) in
-    checks (turn .before .loop .inv) (turn .loop-test .taken)
-    (holds-not (within-is (test .within .ensures) x (other .range .ensures)) (c .if1 .left))
+    let turn = to-turn (c .before) in
+    checks (turn .before .loop .inv) (turn .loop-test .taken) (holds-not (tested (c .before)) (c .if1 .left))
 
 done : tie.Need-returns-2 Inv-loop μ-loop
 unfolding rowWithinOf
