@@ -15,7 +15,7 @@ use Rattle.words.proofs.PartLaws.{part-word, part-length}
 use Rattle.table.specs.Layout.{sizesOf}
 use Rattle.rules.specs.Proposal.{rowsOf, entriesOf, intervalsOf, headsFrom, lowsFrom, proposalLength, headsOf, headOf, lowsOf, highsOf, rowAt, entriesAt}
 use Rattle.rules.specs.Rules.{headInRange}
-use Rattle.rules.specs.Ready.{Bounded, Apart, Ordered, Whole, Readable, Ready}
+use Rattle.rules.specs.Ready.{Bounded, Apart, Ordered, Whole, Readable, Listed, Ready}
 use Rattle.rules.proofs.ProposalLaws.{limits, intervals-bound}
 use Rattle.rules.proofs.RangeLaws.{head-word, end-is}
 
@@ -124,6 +124,16 @@ module _ {t w : List ℤ} (r : Ready t w) where
   entry-ordered i l =
       let rows = rowsOf t * sizesOf t .variables in
       rw (part-word (lowsOf t w) rows (entriesOf w) i l, part-word (highsOf t w) rows (entriesOf w) i l) (end-ordered (rows + i) (omega arith))
+
+  -- ---- all entries
+  pub listed : {h from to : List ℤ} → Apart t w h from to → Listed h from to
+  unfolding headOf
+  listed a = record {
+    few = rw (a .lows, entry-lows-length) (r .bounded .entries);
+    heads = rw (a .heads, a .lows, entry-lows-length) heads-length;
+    highs = rw (a .highs, a .lows, entry-lows-length) entry-highs-length;
+    variable = λ i l. rw (a .heads) (omega (arith, head-variable i (rw (a .lows, entry-lows-length) at l), r .bounded .variables));
+  }
 
   -- ---- an entry against row k
   pub readable : {h from to lows highs : List ℤ} (k i : ℕ) → Apart t w h from to → lows ≡ rowAt t w k .lows → highs ≡ rowAt t w k .highs

@@ -2,14 +2,15 @@
 -- Assumes nothing.
 use Prim.Native.Nat.{ℕ, _+_, _*_, _<_, _≤_}
 use mathlib.Core.Path.{_≡_}
-use mathlib.Core.Bool.{true}
+use mathlib.Core.Bool.{Bool, true, _&&_}
 use mathlib.Core.List.{List}
 use lib.IntN.{ℤ}
 use lib.ListN.{length}
-use lib.Signed.{leZ}
+use lib.Signed.{leZ, _≤ℤ_}
 use Rattle.words.specs.Words.{wordOf, numberAt}
 use Rattle.table.specs.Layout.{sizesOf}
 use Rattle.table.specs.Passes.{Passes}
+use Rattle.analysis.specs.Rows.{Row}
 use Rattle.rules.specs.Proposal.{entriesOf, intervalsOf, lowsFrom, proposalLength, headsOf, lowsOf, highsOf, entriesAt}
 use Rattle.rules.specs.Rules.{rule9, rule10}
 
@@ -59,6 +60,23 @@ pub record Readable (h from to lows highs : List ℤ) (i : ℕ) : Type 0 where
   pub row-low : numberAt h (3 * i + 2) < length lows
   pub row-high : numberAt h (3 * i + 2) < length highs
   pub ordered : leZ (wordOf from i) (wordOf to i) ≡ true
+
+-- all entries can be read where they lie, and their variables are among the sixteen that a row in an array has
+pub record Listed (h from to : List ℤ) : Type 0 where
+  pub few : length from ≤ 512
+  pub heads : length h ≡ 3 * length from
+  pub highs : length to ≡ length from
+  pub variable : (i : ℕ) → i < length from → numberAt h (3 * i + 2) < 16
+
+-- of the first n entries, a row is around those of other tasks than u: no end of a variable's interval is further in than that of such an entry of
+-- the variable
+pub record Around (h from to : List ℤ) (u : ℕ) (r : Row) (n : ℕ) : Type 0 where
+  pub low : (i : ℕ) → i < n → (numberAt h (3 * i + 0) ≡ u → ⊥) → wordOf (r .lows) (numberAt h (3 * i + 2)) ≤ℤ wordOf from i
+  pub high : (i : ℕ) → i < n → (numberAt h (3 * i + 0) ≡ u → ⊥) → wordOf to i ≤ℤ wordOf (r .highs) (numberAt h (3 * i + 2))
+
+-- at the variable v, a row r holds both ends of such a row
+abbrev pub holdsHull : Row → Row → ℕ → Bool
+holdsHull hull r v = leZ (wordOf (r .lows) v) (wordOf (hull .lows) v) && leZ (wordOf (hull .highs) v) (wordOf (r .highs) v)
 
 -- the table passed, the proposal's words are in range, and the entries' heads rise: by refusals 1 to 10
 pub record Ready (t w : List ℤ) : Type 0 where
