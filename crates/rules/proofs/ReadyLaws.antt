@@ -1,5 +1,5 @@
--- What stages that passed tell the stages after them: `Limits` after 8, `Bounded` after 7, `Ready` after 11; what a point of a table that passed names; that the places
--- of the whole table are ranges of numbers that fit; and which marks refusals 1 to 11 leave.
+-- What stages that passed tell the stages after them: `Limits` after 8, `Bounded` after 7, `Ready` after 11; what a point of a table that passed
+-- names; that the places of the whole table are ranges that end where it does; and which marks refusals 1 to 11 leave.
 -- Assumes nothing.
 use Prim.Native.Nat.{ℕ, _+_, _<_, _≤_}
 use mathlib.Core.Path.{_≡_}
