@@ -10,13 +10,12 @@ use run::play::run;
 use words::Stage;
 use words::part;
 
-// An owner or a stop node. Of those below 0 there is only -1.
-fn print_slot(z: i64) {
-    if z < 0 {
-        io::write_all(1, b"-1");
-    } else {
-        print_number(z as usize);
-    }
+fn print_owner(o: i8) {
+    print_word(o as i32);
+}
+
+fn print_node(n: i16) {
+    print_word(n as i32);
 }
 
 // The k-th of the 48 numbers: points, values, owners, stop nodes, stop kinds.
@@ -27,15 +26,15 @@ fn print_place(s: State, k: usize) {
     let stop_nodes = s.stop_nodes;
     let stop_kinds = s.stop_kinds;
     if k < 8 {
-        print_number(points[k]);
+        print_number(points[k] as usize);
     } else if k < 24 {
         print_word(values[k - 8]);
     } else if k < 32 {
-        print_slot(owners[k - 24]);
+        print_owner(owners[k - 24]);
     } else if k < 40 {
-        print_slot(stop_nodes[k - 32]);
+        print_node(stop_nodes[k - 32]);
     } else if k < 48 {
-        print_number(stop_kinds[k - 40]);
+        print_number(stop_kinds[k - 40] as usize);
     }
 }
 

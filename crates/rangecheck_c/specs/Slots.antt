@@ -1,6 +1,6 @@
 -- A state of a run as 48 words, and what a run leaves in its answer slice.
 -- Assumes nothing.
-use Prim.Native.Nat.{ℕ, _-_, _≤_}
+use Prim.Native.Nat.{ℕ, _-_}
 use mathlib.Core.Bool.{cond}
 use mathlib.Core.List.{List}
 use lib.Dec.{ltb}
@@ -28,8 +28,3 @@ slotsOf s = tabulate (slotOf s) 48
 -- what a run leaves in its answer slice: on any refusal it is as it came, else the last state's words stand at its front
 unfoldable pub sliceOf : List ℤ → List ℤ → List ℤ → List ℤ
 sliceOf t ws d = bufferBy (ranStage t (length d)) (slotsOf (lastOf t ws)) d
-
--- a state's points and kinds are small, as those of every state that a run gives; the private functions that write one ask for it
-pub record Fits (s : State) : Type 0 where
-  pub point-fits : (u : ℕ) → getD (s .points) u 0 ≤ 256
-  pub kind-fits : (u : ℕ) → getD (s .«stop_kinds») u 0 ≤ 256

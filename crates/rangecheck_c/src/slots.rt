@@ -1,62 +1,61 @@
 // A state of a run as 48 words.
 use interval::integer::widen;
 use run::State;
-use words::word;
 ghost use mathlib.Core.Path.{_≡_};
 ghost use mathlib.Core.List.{_++_};
-ghost use Prim.Native.Nat.{_≤_};
+ghost use Prim.Native.Nat.{_<_, _≤_};
 ghost use lib.IntN.{pos};
-ghost use lib.ListN.{length, getD, drop};
-ghost use Rattle.words.specs.Words.{wordOf};
-ghost use Rattle.rangecheck_c.specs.Slots.{Fits, slotOf, slotsOf};
+ghost use lib.ListN.{length, drop};
+ghost use Rattle.rangecheck_c.specs.Slots.{slotOf, slotsOf};
 
-// The number, value or word at an index; 0 past the end. (A state's numbers are small, so that they fit.)
-fn number_slot(ns: &[usize], i: usize) -> i64
-    requires { ⌜ getD (now ns) i 0 ≤ 256 ⌝ }
-    ensures { λ r. ⌜ r ≡ pos (getD (now (ns .entry)) i 0) ⌝ }
+// A point, an owner, a stop node and a stop kind as a word.
+fn point_word(p: u16) -> i64
+    ensures { λ r. ⌜ r ≡ pos p ⌝ }
 {
-    if i < ns.len() {
-        let n = ns[i];
-        return n as i64;
-    }
-    0
+    p as i64
 }
 
-fn value_slot(vs: &[i32], i: usize) -> i64
-    ensures { λ r. ⌜ r ≡ wordOf (now (vs .entry)) i ⌝ }
+fn owner_word(o: i8) -> i64
+    ensures { λ r. ⌜ r ≡ o ⌝ }
 {
-    widen(word(vs, i))
+    o as i64
 }
 
-fn word_slot(zs: &[i64], i: usize) -> i64
-    ensures { λ r. ⌜ r ≡ wordOf (now (zs .entry)) i ⌝ }
+fn node_word(n: i16) -> i64
+    ensures { λ r. ⌜ r ≡ n ⌝ }
 {
-    if i < zs.len() { zs[i] } else { 0 }
+    n as i64
+}
+
+fn kind_word(k: u8) -> i64
+    ensures { λ r. ⌜ r ≡ pos k ⌝ }
+{
+    k as i64
 }
 
 // Word i of a state.
 fn slot(s: State, i: usize) -> i64
-    requires { ⌜ Fits s ⌝ }
+    requires { ⌜ i < 48 ⌝ }
     ensures { λ r. ⌜ r ≡ slotOf s i ⌝ }
 {
     if i < 8 {
-        return number_slot(&s.points, i);
+        return point_word(s.points[i]);
     }
     if i < 24 {
-        return value_slot(&s.values, i - 8);
+        return widen(s.values[i - 8]);
     }
     if i < 32 {
-        return word_slot(&s.owners, i - 24);
+        return owner_word(s.owners[i - 24]);
     }
     if i < 40 {
-        return word_slot(&s.stop_nodes, i - 32);
+        return node_word(s.stop_nodes[i - 32]);
     }
-    number_slot(&s.stop_kinds, i - 40)
+    kind_word(s.stop_kinds[i - 40])
 }
 
 // Writes the words of a state to the front of a slice that has room for them.
 pub(crate) fn lay(s: State, out: &mut [i64])
-    requires { ⌜ Fits s × (48 ≤ length (now out)) ⌝ }
+    requires { ⌜ 48 ≤ length (now out) ⌝ }
     ensures { λ r. ⌜ now (out .exit) ≡ slotsOf s ++ drop 48 (now (out .entry)) ⌝ }
 {
     let mut i = 0;

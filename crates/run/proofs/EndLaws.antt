@@ -155,9 +155,9 @@ module _ (ns vs ws : List ℤ) where
   unfolding condAt
   truth-tells n p = fuel-ends (suc n) n p .1
 
-  -- so the node of an error is a number that is not past the nodes' words
-  pub error-inside : (e p : ℕ) {n k q : ℕ} {r : Evaluation} → r ≡ result (arithAt ns e) vs ws p → r ≡ Error n k q → n ≤ length ns
-  error-inside e p h i = omega (arith, (rw (sym h ∙ i) at (result-ends e p)) .1)
+  -- of an error that the code met
+  pub error-inside : (e p : ℕ) {n k q : ℕ} {r : Evaluation} → r ≡ result (arithAt ns e) vs ws p → r ≡ Error n k q → (n < length ns / 4) × (k ≤ 2)
+  error-inside e p h i = let l = rw (sym h ∙ i) at (result-ends e p) in (l .1, l .2)
 
-  pub failure-inside : (c p : ℕ) {n k q : ℕ} {r : Verity} → r ≡ truth (condAt ns c) vs ws p → r ≡ Failure n k q → n ≤ length ns
-  failure-inside c p h i = omega (arith, (rw (sym h ∙ i) at (truth-tells c p)) .1)
+  pub failure-inside : (c p : ℕ) {n k q : ℕ} {r : Verity} → r ≡ truth (condAt ns c) vs ws p → r ≡ Failure n k q → (n < length ns / 4) × (k ≤ 2)
+  failure-inside c p h i = let l = rw (sym h ∙ i) at (truth-tells c p) in (l .1, l .2)

@@ -2,26 +2,32 @@
 -- the node. Of two children, either the first gave a value and the second was evaluated from where the first came to, or the first ended it all.
 -- Assumes nothing.
 use Prim.Native.Nat.{ℕ}
-use mathlib.Core.Path.{_≡_}
-use mathlib.Core.Bool.{Bool, false, not, _&&_, _||_}
+use mathlib.Core.Path.{_≡_, refl, _∙_}
+use mathlib.Core.Bool.{Bool, true, false, not, _&&_, _||_}
 use mathlib.Core.List.{List}
-use lib.Dec.{ltb}
+use lib.Dec.{eqb, ltb}
 use lib.IntN.{ℤ, pos, negℤ}
 use lib.ListN.{length}
+use mir.Facts.{sfits-lit}
+use mir.Syntax.{w32}
+use mir.Val.{SFits}
 use Rattle.interval.specs.Compare.{test}
 use Rattle.interval.specs.declared.Operation.{Operation}
 use Rattle.interval.specs.declared.Comparison.{Comparison}
 use Rattle.words.specs.Words.{wordOf}
 use Rattle.table.specs.declared.Shape.{Shape}
-use Rattle.table.specs.declared.Shape.the-variants.{Constant, Input, Variable, Negation, Binary, Choice, Compare, Both, Either, Not}
+use Rattle.table.specs.declared.Shape.the-variants.{Constant, Input, Variable, Negation, Binary, Choice, Compare, Both, Either, Not, Bad}
 use Rattle.table.specs.declared.Evaluation.{Evaluation}
 use Rattle.table.specs.declared.Evaluation.the-variants.{Value, Error}
 use Rattle.table.specs.declared.Verity.{Verity}
 use Rattle.table.specs.declared.Verity.the-variants.{Truth, Failure}
-use Rattle.table.specs.Decode.{shapeOf}
+use Rattle.table.specs.Decode.{pick, shapeOf}
 use Rattle.table.specs.Tree.{noArith, noCond, arithBy, condBy, arithAt, condAt}
 use Rattle.table.specs.Meaning.{valueThen, valueThenTell, truthThen, truthThenGive, fit, perform, inputBy, branch, result, truth}
 use Rattle.table.proofs.TreeLaws.{arith-of, cond-of}
+use Rattle.run.specs.Codes.{Code, evaluationOf, verityOf, kindPair}
+use Rattle.run.proofs.CodeLaws.{word-is, word-code, truth-is, truth-code}
+use Rattle.run.proofs.KindLaws.{pairShape}
 
 module _ (ns vs ws : List ℤ) where
   -- the outcome r is that of the arithmetic, or of the condition, at the node n from the position p on
@@ -33,9 +39,9 @@ module _ (ns vs ws : List ℤ) where
 
   module _ (n p : ℕ) where
     -- ---- arithmetic
-    pub constant-valued : {z w : ℤ} → shapeOf ns n ≡ Constant z → w ≡ z → Valued n p (Value w p)
+    pub constant-valued : {z : ℤ} → shapeOf ns n ≡ Constant z → Valued n p (Value z p)
     unfolding arithBy result
-    constant-valued e h = rw (arith-of ns n e, h)
+    constant-valued e = rw (arith-of ns n e)
 
     pub input-valued :
         {a b v w : ℤ} {r : Evaluation} → shapeOf ns n ≡ Input a b → v ≡ a → w ≡ b → r ≡ inputBy (ltb p (length ws)) v w (wordOf ws p) p → Valued n p r
@@ -64,19 +70,25 @@ module _ (ns vs ws : List ℤ) where
     binary-ended e h k = rw (arith-of ns n e, ← h, k)
 
     pub choice-valued :
-        {c x y q : ℕ} {t : Bool} {d : Verity} {r : Evaluation} → shapeOf ns n ≡ Choice c x y → Told c p d → d ≡ Truth t q →
-        r ≡ branch t (λ s. result (arithAt ns x) vs ws s) (λ s. result (arithAt ns y) vs ws s) q → Valued n p r
-    unfolding arithBy result truthThenGive
-    choice-valued e h k o = rw (arith-of ns n e, ← h, k) o
+        {c x y q : ℕ} (t : Bool) {d : Verity} {r : Evaluation} → shapeOf ns n ≡ Choice c x y → Told c p d → d ≡ Truth t q →
+        r ≡ result (arithAt ns (pick t x y)) vs ws q → Valued n p r
+    unfolding arithBy result truthThenGive branch
+    choice-valued true e h k o = rw (arith-of ns n e, ← h, k) o
+    choice-valued false e h k o = rw (arith-of ns n e, ← h, k) o
 
     pub choice-ended : {c x y a k q : ℕ} {d : Verity} → shapeOf ns n ≡ Choice c x y → Told c p d → d ≡ Failure a k q → Valued n p (Error a k q)
     unfolding arithBy result truthThenGive
     choice-ended e h k = rw (arith-of ns n e, ← h, k)
 
-    -- a node that is no arithmetic
-    pub no-value : {s : Shape} → shapeOf ns n ≡ s → arithBy (arithAt ns) (condAt ns) n s ≡ noArith n → Valued n p (Value (pos 0) p)
+    -- a node that is no arithmetic comes to 0
+    pub no-value :
+        {s : Shape} → shapeOf ns n ≡ s → arithBy (arithAt ns) (condAt ns) n s ≡ noArith n → Valued n p (evaluationOf (pos 0) p) × Code (pos 0)
     unfolding result
-    no-value e h = rw (arith-of ns n e, h)
+    no-value e h = let zero : SFits w32 (pos 0) = sfits-lit tt in (word-is p zero ∙ rw (arith-of ns n e, h), word-code zero)
+
+    pub bad-value : shapeOf ns n ≡ Bad → Valued n p (evaluationOf (pos 0) p) × Code (pos 0)
+    unfolding arithBy
+    bad-value e = no-value e refl
 
     -- ---- conditions
     pub compare-told :
@@ -91,31 +103,35 @@ module _ (ns vs ws : List ℤ) where
     unfolding condBy result valueThenTell
     compare-ended e h k = rw (cond-of ns n e, ← h, k)
 
-    pub both-told :
-        {x y q : ℕ} {t : Bool} {i j r : Verity} → shapeOf ns n ≡ Both x y → Told x p i → i ≡ Truth t q → Told y q j →
-        r ≡ truthThen j (λ u s. Truth (t && u) s) → Told n p r
-    unfolding condBy result truthThen
-    both-told e h k l o = rw (cond-of ns n e, ← h, k, ← l) o
+    -- both, and either
+    pub pair-told :
+        (k x y : ℕ) {q : ℕ} {t : Bool} {i j r : Verity} → shapeOf ns n ≡ pairShape k x y → Told x p i → i ≡ Truth t q → Told y q j →
+        r ≡ truthThen j (λ u s. Truth (kindPair k t u) s) → Told n p r
+    unfolding condBy result truthThen kindPair pairShape
+    pair-told k x y {t} {j} {r} e h m l o = by (eqb k 20) e o
+      where
+        by : (b : Bool) → shapeOf ns n ≡ pick b (Both x y) (Either x y) → r ≡ truthThen j (λ u s. Truth (pick b (t && u) (t || u)) s) → Told n p r
+        by true e o = rw (cond-of ns n e, ← h, m, ← l) o
+        by false e o = rw (cond-of ns n e, ← h, m, ← l) o
 
-    pub both-ended : {x y a k q : ℕ} {i : Verity} → shapeOf ns n ≡ Both x y → Told x p i → i ≡ Failure a k q → Told n p i
-    unfolding condBy result truthThen
-    both-ended e h k = rw (cond-of ns n e, ← h, k)
-
-    pub either-told :
-        {x y q : ℕ} {t : Bool} {i j r : Verity} → shapeOf ns n ≡ Either x y → Told x p i → i ≡ Truth t q → Told y q j →
-        r ≡ truthThen j (λ u s. Truth (t || u) s) → Told n p r
-    unfolding condBy result truthThen
-    either-told e h k l o = rw (cond-of ns n e, ← h, k, ← l) o
-
-    pub either-ended : {x y a k q : ℕ} {i : Verity} → shapeOf ns n ≡ Either x y → Told x p i → i ≡ Failure a k q → Told n p i
-    unfolding condBy result truthThen
-    either-ended e h k = rw (cond-of ns n e, ← h, k)
+    pub pair-ended : (k x y : ℕ) {a l q : ℕ} {i : Verity} → shapeOf ns n ≡ pairShape k x y → Told x p i → i ≡ Failure a l q → Told n p i
+    unfolding condBy result truthThen pairShape
+    pair-ended k x y {i} e h m = by (eqb k 20) e
+      where
+        by : (b : Bool) → shapeOf ns n ≡ pick b (Both x y) (Either x y) → Told n p i
+        by true e = rw (cond-of ns n e, ← h, m)
+        by false e = rw (cond-of ns n e, ← h, m)
 
     pub not-told : {x : ℕ} {i r : Verity} → shapeOf ns n ≡ Not x → Told x p i → r ≡ truthThen i (λ t q. Truth (not t) q) → Told n p r
     unfolding condBy result truthThen
     not-told e h k = rw (cond-of ns n e, ← h) k
 
-    -- a node that is no condition
-    pub no-truth : {s : Shape} → shapeOf ns n ≡ s → condBy (arithAt ns) (condAt ns) n s ≡ noCond n → Told n p (Truth false p)
+    -- a node that is no condition comes to 0, which is false
+    pub no-truth :
+        {s : Shape} → shapeOf ns n ≡ s → condBy (arithAt ns) (condAt ns) n s ≡ noCond n → Told n p (verityOf (pos 0) p) × Code (pos 0)
     unfolding result
-    no-truth e h = rw (cond-of ns n e, h)
+    no-truth e h = (truth-is false p ∙ rw (cond-of ns n e, h), truth-code false)
+
+    pub bad-truth : shapeOf ns n ≡ Bad → Told n p (verityOf (pos 0) p) × Code (pos 0)
+    unfolding condBy
+    bad-truth e = no-truth e refl

@@ -1,5 +1,10 @@
+pub mod CodeLaws
+pub mod KindLaws
 pub mod EvaluationLaws
+pub mod KeptLaws
 pub mod EndLaws
+pub mod StartLaws
+pub mod SlotLaws
 pub mod StepLaws
 pub mod RunLaws
 pub mod Laws

@@ -1,33 +1,39 @@
 -- One step, arm by arm: from what the code read and wrote to what the definition says of the step.
 -- Assumes nothing.
 use Prim.Native.Nat.{ℕ, _+_, _<_, _≤_}
-use mathlib.Core.Path.{_≡_, refl}
+use mathlib.Core.Path.{_≡_, refl, sym, _∙_}
 use mathlib.Core.Bool.{Bool, true, false, not, cond, _&&_}
 use mathlib.Core.List.{List}
-use borrow.Author.Tests.{lt-ltb, le-ltb, not-true, not-false}
+use borrow.Author.Tests.{lt-ltb, le-ltb, ltb-true, not-true, not-false}
 use lib.Dec.{eqb, ltb}
 use lib.IntN.{ℤ, pos, negsuc}
 use lib.ListN.{length, set}
 use Rattle.words.specs.Words.{numberAt}
+use Rattle.words.proofs.Bools.{and-left}
 use Rattle.table.specs.declared.Point.{Point}
 use Rattle.table.specs.declared.Point.the-variants.{End, Assign, Test, Lock, Unlock}
 use Rattle.table.specs.declared.Evaluation.{Evaluation}
 use Rattle.table.specs.declared.Evaluation.the-variants.{Value, Error}
 use Rattle.table.specs.declared.Verity.{Verity}
 use Rattle.table.specs.declared.Verity.the-variants.{Truth, Failure}
-use Rattle.table.specs.Layout.{sizesOf, pointsOf, nodesOf}
+use Rattle.table.specs.Layout.{sizesOf, pointsOf}
 use Rattle.table.specs.Decode.{pointOf}
 use Rattle.table.specs.Tree.{arithAt, condAt}
 use Rattle.table.specs.Meaning.{result, truth}
 use Rattle.run.specs.declared.State.{State}
 use Rattle.run.specs.declared.Stepped.{Stepped}
-use Rattle.run.specs.State.{pointIn, ownerIn, stopKindIn, isFree, ownsOf, stateOf, withPointOf}
+use Rattle.run.specs.Codes.{Kept}
+use Rattle.run.specs.State.{pointIn, ownerIn, stopKindIn, isFree, ownsOf, stateOf, withPointOf, withValueOf, withOwnerOf}
 use Rattle.run.specs.Step.{stepped, assignBy, testBy, lockBy, unlockBy, actOf, runsOf, turnBy, turnOf, stepBy, stepOf}
 
 -- ---- whose turn it is
 -- the test whether u is a task that hasn't stopped
 abbrev Runs : List ℤ → State → ℕ → Bool → Type 0
 Runs t s u b = b ≡ ltb u (sizesOf t .tasks) && eqb (stopKindIn s u) 0
+
+-- such a u is a task
+pub goes-on : (t : List ℤ) (s : State) (u : ℕ) {b : Bool} → Runs t s u b → not b ≡ false → u < sizesOf t .tasks
+goes-on t s u {b} k n = ltb-true u _ (and-left _ _ (sym k ∙ not-false b n))
 
 module _ (t ws : List ℤ) (s : State) (at : ℕ) {r : Stepped} where
   pub no-word : length ws ≤ at → r ≡ stepped s at → r ≡ stepOf t ws s at
@@ -46,15 +52,9 @@ module _ (t ws : List ℤ) (s : State) (at : ℕ) {r : Stepped} where
   turn {b} h e k n o = rw (lt-ltb _ _ h, ← e, ← k, not-false b n) o
 
 -- ---- the arms
--- the states with other parts than s: point and value, stop node and kind, owner and point
-abbrev moved : State → List ℕ → List ℤ → State
-moved s points values = stateOf points values (s .owners) (s .«stop_nodes») (s .«stop_kinds»)
-
+-- the state with other stop nodes and kinds than s
 abbrev halted : State → List ℤ → List ℕ → State
 halted s nodes kinds = stateOf (s .points) (s .values) (s .owners) nodes kinds
-
-abbrev handed : State → List ℤ → List ℕ → State
-handed s owners points = stateOf points (s .values) owners (s .«stop_nodes») (s .«stop_kinds»)
 
 -- where a test goes on
 test-goes : (b : Bool) (s : State) (u y n last : ℕ) → testBy (Truth b last) s u y n ≡ stepped (withPointOf s u (cond b y n)) last
@@ -65,10 +65,10 @@ test-goes false s u y n last = refl
 module _ (s : State) (u : ℕ) where
   -- an assignment, by what its expression came to
   pub assigned :
-      (v q : ℕ) {last : ℕ} {z w : ℤ} {x i : Evaluation} {points : List ℕ} {values : List ℤ} → x ≡ i → x ≡ Value z last → w ≡ z →
-      values ≡ set (s .values) v w → points ≡ set (s .points) u q → stepped (moved s points values) last ≡ assignBy i s u v q
+      (v q : ℕ) {last : ℕ} {z w : ℤ} {x i : Evaluation} → x ≡ i → x ≡ Value z last → w ≡ z →
+      stepped (withPointOf (withValueOf s v w) u q) last ≡ assignBy i s u v q
   unfolding assignBy
-  assigned v q h k m a b = rw (← h, k, ← m, ← a, ← b)
+  assigned v q h k m = rw (← h, k, ← m)
 
   pub assign-stopped :
       (v q : ℕ) {n k last : ℕ} {x i : Evaluation} {nodes : List ℤ} {kinds : List ℕ} → x ≡ i → x ≡ Error n k last →
@@ -78,9 +78,9 @@ module _ (s : State) (u : ℕ) where
 
   -- a test, by what its condition came to
   pub tested :
-      (y n : ℕ) {q last : ℕ} {b : Bool} {x i : Verity} {points : List ℕ} → x ≡ i → x ≡ Truth b last → q ≡ cond b y n →
-      points ≡ set (s .points) u q → stepped (moved s points (s .values)) last ≡ testBy i s u y n
-  tested y n h k m a = rw (← h, k, test-goes _ s u _ _ _, ← m, ← a)
+      (y n : ℕ) {q last : ℕ} {b : Bool} {x i : Verity} → x ≡ i → x ≡ Truth b last → q ≡ cond b y n →
+      stepped (withPointOf s u q) last ≡ testBy i s u y n
+  tested y n h k m = rw (← h, k, test-goes _ s u _ _ _, ← m)
 
   pub test-stopped :
       (y n : ℕ) {e k last : ℕ} {x i : Verity} {nodes : List ℤ} {kinds : List ℕ} → x ≡ i → x ≡ Failure e k last →
@@ -90,20 +90,18 @@ module _ (s : State) (u : ℕ) where
 
   -- a lock and an unlock, by the owner that was read
   pub locked :
-      (m q : ℕ) {b i : Bool} {w : ℤ} {owners : List ℤ} {points : List ℕ} → b ≡ i → b ≡ true → w ≡ pos u → owners ≡ set (s .owners) m w →
-      points ≡ set (s .points) u q → handed s owners points ≡ lockBy i s u m q
+      (m q : ℕ) {b i : Bool} {w : ℤ} → b ≡ i → b ≡ true → w ≡ pos u → withPointOf (withOwnerOf s m w) u q ≡ lockBy i s u m q
   unfolding lockBy
-  locked m q h k n a c = rw (← h, k, ← n, ← a, ← c)
+  locked m q h k n = rw (← h, k, ← n)
 
   pub lock-kept : (m q : ℕ) {b i : Bool} → b ≡ i → b ≡ false → s ≡ lockBy i s u m q
   unfolding lockBy
   lock-kept m q h k = rw (← h, k)
 
   pub unlocked :
-      (m q : ℕ) {b i : Bool} {owners : List ℤ} {points : List ℕ} → b ≡ i → b ≡ true → owners ≡ set (s .owners) m (negsuc 0) →
-      points ≡ set (s .points) u q → handed s owners points ≡ unlockBy i s u m q
+      (m q : ℕ) {b i : Bool} → b ≡ i → b ≡ true → withPointOf (withOwnerOf s m (negsuc 0)) u q ≡ unlockBy i s u m q
   unfolding unlockBy
-  unlocked m q h k a c = rw (← h, k, ← a, ← c)
+  unlocked m q h k = rw (← h, k)
 
   pub unlock-kept : (m q : ℕ) {b i : Bool} → b ≡ i → b ≡ false → s ≡ unlockBy i s u m q
   unfolding unlockBy
@@ -111,27 +109,21 @@ module _ (s : State) (u : ℕ) where
 
 -- ---- what the task does, by what stands at its point
 module _ (t ws : List ℤ) (s : State) (u p : ℕ) {what : Point} {r : Stepped} where
-  -- what the code read there
-  pub at-point :
-      {places : List ℤ} {n : ℕ} → what ≡ pointOf places n → places ≡ pointsOf t → n ≡ pointIn s u → r ≡ actOf t ws what s u p →
-      r ≡ actOf t ws (pointOf (pointsOf t) (pointIn s u)) s u p
-  at-point e f g o = rw (← f, ← g, ← e) o
-
   pub ends : what ≡ End → r ≡ stepped s p → r ≡ actOf t ws what s u p
   unfolding actOf
   ends e o = rw e o
 
   pub assigns :
-      {v e q : ℕ} {nodes : List ℤ} → what ≡ Assign v e q → nodes ≡ nodesOf t → r ≡ assignBy (result (arithAt nodes e) (s .values) ws p) s u v q →
+      {v e q : ℕ} {nodes : List ℤ} → what ≡ Assign v e q → Kept t nodes → r ≡ assignBy (result (arithAt nodes e) (s .values) ws p) s u v q →
       r ≡ actOf t ws what s u p
   unfolding actOf
-  assigns e n o = rw (e, ← n) o
+  assigns {e} i k o = rw (i, ← k .arith e) o
 
   pub tests :
-      {c y n : ℕ} {nodes : List ℤ} → what ≡ Test c y n → nodes ≡ nodesOf t → r ≡ testBy (truth (condAt nodes c) (s .values) ws p) s u y n →
+      {c y n : ℕ} {nodes : List ℤ} → what ≡ Test c y n → Kept t nodes → r ≡ testBy (truth (condAt nodes c) (s .values) ws p) s u y n →
       r ≡ actOf t ws what s u p
   unfolding actOf
-  tests e k o = rw (e, ← k) o
+  tests {c} i k o = rw (i, ← k .cond c) o
 
   pub locks : {m q : ℕ} → what ≡ Lock m q → r ≡ stepped (lockBy (isFree (ownerIn s m)) s u m q) p → r ≡ actOf t ws what s u p
   unfolding actOf

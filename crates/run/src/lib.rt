@@ -2,19 +2,19 @@
 ghost use Rattle.run.specs.Laws.{Laws};
 
 mod evaluate;
-mod parts;
 pub mod play;
 mod start;
 mod step;
 
 // Document 01's numbers: each task's point, each variable, each mutex's owner or -1, each task's stop node or -1 and stop kind or 0. Slots past
-// the sizes are 0. (A step takes any table, so that an owner or a node can be a number that is no i32.)
+// the sizes are 0. A step copies the state, so its slots are narrow: of a table that passed refusals 1 to 6 a point is below 256, an owner below 8,
+// a stop node below 1024 and a stop kind below 3.
 pub struct State {
-    pub points: [usize; 8],
+    pub points: [u16; 8],
     pub values: [i32; 16],
-    pub owners: [i64; 8],
-    pub stop_nodes: [i64; 8],
-    pub stop_kinds: [usize; 8],
+    pub owners: [i8; 8],
+    pub stop_nodes: [i16; 8],
+    pub stop_kinds: [u8; 8],
 }
 
 // A state, and the position in the schedule.

@@ -7,47 +7,58 @@ use words::number_at;
 use words::word;
 ghost use mathlib.Core.Path.{_≡_};
 ghost use mathlib.Core.Bool.{cond};
+ghost use Prim.Native.Nat.{_≤_};
 ghost use lib.Dec.{ltb};
-ghost use lib.IntN.{pos, negsuc};
 ghost use Rattle.table.specs.Layout.{firstOf, sizesOf};
+ghost use Rattle.table.specs.Passes.{Passes};
 ghost use Rattle.run.specs.State.{freeOf, firstsOf, valuesOf, startOf, blankOf};
 
-// -1 in the slot i where it is one of the first n, else 0.
-fn free_slot(i: usize, n: usize) -> i64
-    ensures { λ r. ⌜ r ≡ cond (ltb i n) (negsuc 0) (pos 0) ⌝ }
-{
-    if i < n { -1 } else { 0 }
-}
-
-// -1 in the first n of eight slots.
-fn free_slots(n: usize) -> [i64; 8]
+// -1 in the first n of eight owners.
+fn free_owners(n: usize) -> [i8; 8]
+    requires { ⌜ n ≤ 8 ⌝ }
     ensures { λ r. ⌜ r ≡ freeOf n ⌝ }
 {
-    let mut slots = [0i64; 8];
+    let mut slots = [0i8; 8];
     let mut i = 0;
-    while i < 8 {
-        slots[i] = free_slot(i, n);
+    while i < n {
+        slots[i] = -1;
+        i += 1;
+    }
+    slots
+}
+
+// The same of eight stop nodes.
+fn free_nodes(n: usize) -> [i16; 8]
+    requires { ⌜ n ≤ 8 ⌝ }
+    ensures { λ r. ⌜ r ≡ freeOf n ⌝ }
+{
+    let mut slots = [0i16; 8];
+    let mut i = 0;
+    while i < n {
+        slots[i] = -1;
         i += 1;
     }
     slots
 }
 
 // The first point of task u, or 0 where there is no such task.
-fn point_slot(table: &[i32], u: usize) -> usize
+fn point_slot(table: &[i32], u: usize) -> u16
+    requires { ⌜ Passes (now table) ⌝ }
     ensures { λ r. ⌜ r ≡ cond (ltb u (sizesOf (now (table .entry)) .tasks)) (firstOf (now (table .entry)) u) 0 ⌝ }
 {
     if u < number_at(table, 0) {
-        first_of(table, u)
+        first_of(table, u) as u16
     } else {
         0
     }
 }
 
 // The first points in eight slots.
-fn start_points(table: &[i32]) -> [usize; 8]
+fn start_points(table: &[i32]) -> [u16; 8]
+    requires { ⌜ Passes (now table) ⌝ }
     ensures { λ r. ⌜ r ≡ firstsOf (now (table .entry)) ⌝ }
 {
-    let mut slots = [0usize; 8];
+    let mut slots = [0u16; 8];
     let mut u = 0;
     while u < 8 {
         slots[u] = point_slot(table, u);
@@ -72,15 +83,16 @@ fn start_values(table: &[i32]) -> [i32; 16]
 
 impl State {
     // Where a run of the table starts: at first points and starting values, all free.
-    pub fn start(table: &[i32]) -> Self
+    pub(crate) fn start(table: &[i32]) -> Self
+        requires { ⌜ Passes (now table) ⌝ }
         ensures { λ r. ⌜ r ≡ startOf (now (table .entry)) ⌝ }
     {
         let s = sizes(table);
         State {
             points: start_points(table),
             values: start_values(table),
-            owners: free_slots(s.mutexes),
-            stop_nodes: free_slots(s.tasks),
+            owners: free_owners(s.mutexes),
+            stop_nodes: free_nodes(s.tasks),
             stop_kinds: [0; 8],
         }
     }

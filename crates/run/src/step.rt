@@ -2,67 +2,96 @@
 // where they lie, because a state that is handed from call to call would be copied each time.
 use crate::State;
 use crate::Stepped;
+use crate::evaluate::error_kind;
+use crate::evaluate::error_node;
+use crate::evaluate::is_error;
+use crate::evaluate::is_true;
 use crate::evaluate::value;
 use crate::evaluate::verity;
-use crate::parts::is_free;
-use crate::parts::is_number;
-use crate::parts::number_in;
-use crate::parts::put_number;
-use crate::parts::put_value;
-use crate::parts::put_word;
-use crate::parts::word_in;
-use table::Evaluation;
+use crate::evaluate::word_of;
 use table::Point;
-use table::Verity;
 use table::decode::point_at;
-use table::layout::node_words;
 use table::layout::point_words;
 use words::number_at;
 ghost use mathlib.Core.Path.{_≡_};
 ghost use mathlib.Core.Bool.{cond, _&&_};
 ghost use mathlib.Core.List.{List};
-ghost use Prim.Native.Nat.{ℕ, _≤_};
+ghost use Prim.Native.Nat.{ℕ, _<_, _≤_};
 ghost use lib.Dec.{eqb, ltb};
 ghost use lib.IntN.{ℤ, pos};
-ghost use lib.ListN.{getD, set};
+ghost use lib.ListN.{length, getD, set};
 ghost use Rattle.words.specs.Words.{wordOf};
-ghost use Rattle.table.specs.Layout.{sizesOf, pointsOf, nodesOf};
+ghost use Rattle.table.specs.Layout.{sizesOf, pointsOf};
 ghost use Rattle.table.specs.Decode.{pointOf};
 ghost use Rattle.table.specs.Tree.{arithAt, condAt};
 ghost use Rattle.table.specs.Meaning.{result, truth};
+ghost use Rattle.table.specs.Passes.{Passes};
+ghost use Rattle.run.specs.Codes.{Kept};
 ghost use Rattle.run.specs.State.{isFree, isNumber, stateOf};
 ghost use Rattle.run.specs.Step.{stepped, assignBy, testBy, lockBy, unlockBy, actOf, stepOf};
 
-// Whether u is a task that hasn't stopped.
-fn runs(table: &[i32], stop_kinds: &[usize], u: usize) -> bool
-    ensures { λ r. ⌜ r ≡ ltb u (sizesOf (now (table .entry)) .tasks) && eqb (getD (now («stop_kinds» .entry)) u 0) 0 ⌝ }
+// ---- the slots of a state's parts
+
+// A point in its slot, as a number.
+fn wide(p: u16) -> usize
+    ensures { λ r. ⌜ r ≡ p ⌝ }
 {
-    (u < number_at(table, 0)) & (number_in(stop_kinds, u) == 0)
+    p as usize
 }
 
-fn pick(t: bool, y: usize, n: usize) -> usize
+// Whether the mutex m has no owner.
+fn is_free(owners: &[i8; 8], m: usize) -> bool
+    requires { ⌜ m < 8 ⌝ }
+    ensures { λ r. ⌜ r ≡ isFree (wordOf (now (owners .entry)) m) ⌝ }
+{
+    owners[m] == -1
+}
+
+// Whether the owner of the mutex m is the task u.
+fn owns(owners: &[i8; 8], m: usize, u: usize) -> bool
+    requires { ⌜ (m < 8) × (u < 8) ⌝ }
+    ensures { λ r. ⌜ r ≡ isNumber (wordOf (now (owners .entry)) m) u ⌝ }
+{
+    owners[m] == u as i8
+}
+
+// Whether u is a task that hasn't stopped.
+fn runs(table: &[i32], stop_kinds: &[u8; 8], u: usize) -> bool
+    requires { ⌜ sizesOf (now table) .tasks ≤ 8 ⌝ }
+    ensures { λ r. ⌜ r ≡ ltb u (sizesOf (now (table .entry)) .tasks) && eqb (getD (now («stop_kinds» .entry)) u 0) 0 ⌝ }
+{
+    if u < number_at(table, 0) {
+        stop_kinds[u] == 0
+    } else {
+        false
+    }
+}
+
+fn pick(t: bool, y: u16, n: u16) -> u16
     ensures { λ r. ⌜ r ≡ cond t y n ⌝ }
 {
     if t { y } else { n }
 }
 
 // The task u stops at the node n with an error of the kind k.
-fn stop<'a>(stop_nodes: &'a mut [i64], stop_kinds: &'a mut [usize], u: usize, n: usize, k: usize)
-    requires { ⌜ n ≤ 9223372036854775807 ⌝ }
+fn stop<'a>(stop_nodes: &'a mut [i16; 8], stop_kinds: &'a mut [u8; 8], u: usize, n: usize, k: usize)
+    requires { ⌜ (u < 8) × (n < 1024) × (k ≤ 2) ⌝ }
     ensures { λ r. ⌜ now («stop_nodes» .exit) ≡ set (now («stop_nodes» .entry)) u (pos n) ⌝ }
     ensures { λ r. ⌜ now («stop_kinds» .exit) ≡ set (now («stop_kinds» .entry)) u k ⌝ }
 {
-    put_word(stop_nodes, u, n as i64);
-    put_number(stop_kinds, u, k);
+    stop_nodes[u] = n as i16;
+    stop_kinds[u] = k as u8;
 }
+
+// ---- the arms
 
 // An assignment of the node e to v: the task u goes on at q, or stops.
 fn assign<'a, 'b>(
-    points: &'b mut [usize],
-    values: &'b mut [i32],
-    stop_nodes: &'b mut [i64],
-    stop_kinds: &'b mut [usize],
-    nodes: &'a [i32],
+    points: &'b mut [u16; 8],
+    values: &'b mut [i32; 16],
+    stop_nodes: &'b mut [i16; 8],
+    stop_kinds: &'b mut [u8; 8],
+    nodes: &'a [i32; 4096],
     schedule: &'a [i32],
     at: usize,
     u: usize,
@@ -70,29 +99,27 @@ fn assign<'a, 'b>(
     e: usize,
     q: usize,
 ) -> usize
+    requires { ⌜ (u < 8) × (v < 16) × (e < 1024) × (q < 256) × (length (now nodes) ≡ 4096) ⌝ }
     ensures { λ r. ⌜ ((o : List ℤ) → stepped (stateOf (now (points .exit)) (now (values .exit)) o (now («stop_nodes» .exit)) (now («stop_kinds» .exit))) r ≡ assignBy (result (arithAt (now (nodes .entry)) e) (now (values .entry)) (now (schedule .entry)) at) (stateOf (now (points .entry)) (now (values .entry)) o (now («stop_nodes» .entry)) (now («stop_kinds» .entry))) u v q) ⌝ }
 {
-    let x = value(nodes, e, &values[..], schedule, at);
-    match x {
-        Evaluation::Value(z, last) => {
-            put_value(values, v, z);
-            put_number(points, u, q);
-            last
-        }
-        Evaluation::Error(n, k, last) => {
-            stop(stop_nodes, stop_kinds, u, n, k);
-            last
-        }
+    let mut last = at;
+    let z = value(nodes, e, &*values, schedule, &mut last);
+    if is_error(z) {
+        stop(stop_nodes, stop_kinds, u, error_node(z), error_kind(z));
+    } else {
+        values[v] = word_of(z);
+        points[u] = q as u16;
     }
+    last
 }
 
 // A test of the condition c: the task u goes on at y or at n, or stops.
 fn test<'a, 'b>(
-    points: &'b mut [usize],
-    values: &'a [i32],
-    stop_nodes: &'b mut [i64],
-    stop_kinds: &'b mut [usize],
-    nodes: &'a [i32],
+    points: &'b mut [u16; 8],
+    values: &'a [i32; 16],
+    stop_nodes: &'b mut [i16; 8],
+    stop_kinds: &'b mut [u8; 8],
+    nodes: &'a [i32; 4096],
     schedule: &'a [i32],
     at: usize,
     u: usize,
@@ -100,62 +127,58 @@ fn test<'a, 'b>(
     y: usize,
     n: usize,
 ) -> usize
+    requires { ⌜ (u < 8) × (c < 1024) × (y < 256) × (n < 256) × (length (now nodes) ≡ 4096) ⌝ }
     ensures { λ r. ⌜ ((o : List ℤ) → stepped (stateOf (now (points .exit)) (now (values .entry)) o (now («stop_nodes» .exit)) (now («stop_kinds» .exit))) r ≡ testBy (truth (condAt (now (nodes .entry)) c) (now (values .entry)) (now (schedule .entry)) at) (stateOf (now (points .entry)) (now (values .entry)) o (now («stop_nodes» .entry)) (now («stop_kinds» .entry))) u y n) ⌝ }
 {
-    let x = verity(nodes, c, values, schedule, at);
-    match x {
-        Verity::Truth(t, last) => {
-            put_number(points, u, pick(t, y, n));
-            last
-        }
-        Verity::Failure(e, k, last) => {
-            stop(stop_nodes, stop_kinds, u, e, k);
-            last
-        }
+    let mut last = at;
+    let z = verity(nodes, c, values, schedule, &mut last);
+    if is_error(z) {
+        stop(stop_nodes, stop_kinds, u, error_node(z), error_kind(z));
+    } else {
+        points[u] = pick(is_true(z), y as u16, n as u16);
     }
+    last
 }
 
 // A lock of m by the task u, going on at q.
-fn lock<'a>(points: &'a mut [usize], owners: &'a mut [i64], u: usize, m: usize, q: usize)
-    requires { ⌜ u ≤ 4294967295 ⌝ }
+fn lock<'a>(points: &'a mut [u16; 8], owners: &'a mut [i8; 8], u: usize, m: usize, q: usize)
+    requires { ⌜ (u < 8) × (m < 8) × (q < 256) ⌝ }
     ensures { λ r. ⌜ ((v n : List ℤ) (k : List ℕ) → stateOf (now (points .exit)) v (now (owners .exit)) n k ≡ lockBy (isFree (wordOf (now (owners .entry)) m)) (stateOf (now (points .entry)) v (now (owners .entry)) n k) u m q) ⌝ }
 {
-    if is_free(word_in(&owners[..], m)) {
-        put_word(owners, m, u as i64);
-        put_number(points, u, q);
+    if is_free(&*owners, m) {
+        owners[m] = u as i8;
+        points[u] = q as u16;
     }
 }
 
 // An unlock of m by the task u, going on at q.
-fn unlock<'a>(points: &'a mut [usize], owners: &'a mut [i64], u: usize, m: usize, q: usize)
-    requires { ⌜ u ≤ 4294967295 ⌝ }
+fn unlock<'a>(points: &'a mut [u16; 8], owners: &'a mut [i8; 8], u: usize, m: usize, q: usize)
+    requires { ⌜ (u < 8) × (m < 8) × (q < 256) ⌝ }
     ensures { λ r. ⌜ ((v n : List ℤ) (k : List ℕ) → stateOf (now (points .exit)) v (now (owners .exit)) n k ≡ unlockBy (isNumber (wordOf (now (owners .entry)) m) u) (stateOf (now (points .entry)) v (now (owners .entry)) n k) u m q) ⌝ }
 {
-    if is_number(word_in(&owners[..], m), u) {
-        put_word(owners, m, -1);
-        put_number(points, u, q);
+    if owns(&*owners, m, u) {
+        owners[m] = -1;
+        points[u] = q as u16;
     }
 }
 
 // What the task u does, by what stands at its point; `at` is the position after its own word.
 fn act<'a, 'b>(
-    points: &'b mut [usize],
-    values: &'b mut [i32],
-    owners: &'b mut [i64],
-    stop_nodes: &'b mut [i64],
-    stop_kinds: &'b mut [usize],
+    points: &'b mut [u16; 8],
+    values: &'b mut [i32; 16],
+    owners: &'b mut [i8; 8],
+    stop_nodes: &'b mut [i16; 8],
+    stop_kinds: &'b mut [u8; 8],
     table: &'a [i32],
-    places: &'a [i32],
-    nodes: &'a [i32],
+    nodes: &'a [i32; 4096],
     schedule: &'a [i32],
     at: usize,
     u: usize,
 ) -> usize
-    requires { ⌜ (now places ≡ pointsOf (now table)) × (now nodes ≡ nodesOf (now table)) ⌝ }
-    requires { ⌜ u ≤ 4294967295 ⌝ }
+    requires { ⌜ Passes (now table) × Kept (now table) (now nodes) × (u < sizesOf (now table) .tasks) ⌝ }
     ensures { λ r. ⌜ stepped (stateOf (now (points .exit)) (now (values .exit)) (now (owners .exit)) (now («stop_nodes» .exit)) (now («stop_kinds» .exit))) r ≡ actOf (now (table .entry)) (now (schedule .entry)) (pointOf (pointsOf (now (table .entry))) (getD (now (points .entry)) u 0)) (stateOf (now (points .entry)) (now (values .entry)) (now (owners .entry)) (now («stop_nodes» .entry)) (now («stop_kinds» .entry))) u at ⌝ }
 {
-    let what = point_at(places, number_in(&points[..], u));
+    let what = point_at(point_words(table), wide(points[u]));
     match what {
         Point::End => at,
         Point::Assign(v, e, q) => assign(
@@ -173,7 +196,7 @@ fn act<'a, 'b>(
         ),
         Point::Test(c, y, n) => test(
             points,
-            &values[..],
+            &*values,
             stop_nodes,
             stop_kinds,
             nodes,
@@ -195,28 +218,27 @@ fn act<'a, 'b>(
     }
 }
 
-// The step of the task word at the position `at`, on the parts of a state; the points and the nodes of the table are at hand. It gives the next
-// position. With no word left nothing changes.
+// The step of the task word at the position `at`, on the parts of a state; the nodes of the table are at hand. It gives the next position. With no
+// word left nothing changes.
 pub(crate) fn advance<'a, 'b>(
-    points: &'b mut [usize],
-    values: &'b mut [i32],
-    owners: &'b mut [i64],
-    stop_nodes: &'b mut [i64],
-    stop_kinds: &'b mut [usize],
+    points: &'b mut [u16; 8],
+    values: &'b mut [i32; 16],
+    owners: &'b mut [i8; 8],
+    stop_nodes: &'b mut [i16; 8],
+    stop_kinds: &'b mut [u8; 8],
     table: &'a [i32],
-    places: &'a [i32],
-    nodes: &'a [i32],
+    nodes: &'a [i32; 4096],
     schedule: &'a [i32],
     at: usize,
 ) -> usize
-    requires { ⌜ (now places ≡ pointsOf (now table)) × (now nodes ≡ nodesOf (now table)) ⌝ }
+    requires { ⌜ Passes (now table) × Kept (now table) (now nodes) ⌝ }
     ensures { λ r. ⌜ stepped (stateOf (now (points .exit)) (now (values .exit)) (now (owners .exit)) (now («stop_nodes» .exit)) (now («stop_kinds» .exit))) r ≡ stepOf (now (table .entry)) (now (schedule .entry)) (stateOf (now (points .entry)) (now (values .entry)) (now (owners .entry)) (now («stop_nodes» .entry)) (now («stop_kinds» .entry))) at ⌝ }
 {
     if schedule.len() <= at {
         return at;
     }
     let u = number_at(schedule, at);
-    if !runs(table, &stop_kinds[..], u) {
+    if !runs(table, &*stop_kinds, u) {
         return at + 1;
     }
     act(
@@ -226,7 +248,6 @@ pub(crate) fn advance<'a, 'b>(
         stop_nodes,
         stop_kinds,
         table,
-        places,
         nodes,
         schedule,
         at + 1,
@@ -235,8 +256,15 @@ pub(crate) fn advance<'a, 'b>(
 }
 
 impl State {
-    // The step of the task word at the position `at`. With no word left nothing changes.
-    pub fn step<'a>(self, at: usize, table: &'a [i32], schedule: &'a [i32]) -> Stepped
+    // The step of the task word at the position `at`; the nodes of the table are at hand in an array. With no word left nothing changes.
+    pub(crate) fn step<'a>(
+        self,
+        at: usize,
+        table: &'a [i32],
+        nodes: &'a [i32; 4096],
+        schedule: &'a [i32],
+    ) -> Stepped
+        requires { ⌜ Passes (now table) × Kept (now table) (now nodes) ⌝ }
         ensures { λ r. ⌜ r ≡ stepOf (now (table .entry)) (now (schedule .entry)) self at ⌝ }
     {
         let mut points = self.points;
@@ -251,8 +279,7 @@ impl State {
             &mut stop_nodes,
             &mut stop_kinds,
             table,
-            point_words(table),
-            node_words(table),
+            nodes,
             schedule,
             at,
         );

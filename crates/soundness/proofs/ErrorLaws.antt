@@ -1,12 +1,11 @@
 -- An error that ends an evaluation at a reached point is on the alarm list: its node is one of the table's, and the analysis calls it possible there.
 -- Assumes nothing.
-use Prim.Native.Nat.{ℕ, _/_, _<_, _≤_}
-use mathlib.Core.Path.{_≡_, _∙_}
+use Prim.Native.Nat.{ℕ, _<_}
+use mathlib.Core.Path.{_≡_, refl, _∙_}
 use mathlib.Core.Bool.{true}
 use mathlib.Core.List.{List}
 use native.Mathlib.Omega.{arith}
 use lib.IntN.{ℤ}
-use lib.ListN.{length, length-take}
 use Rattle.words.proofs.FirstLaws.{one-someBelow}
 use Rattle.table.specs.declared.Point.the-variants.{Assign, Test}
 use Rattle.table.specs.declared.Evaluation.the-variants.{Error}
@@ -24,19 +23,16 @@ use Rattle.rules.specs.Alarms.{alarmsBy, alarmsIf, alarmsAt}
 use Rattle.checker.specs.AlarmList.{raised, alarmWords}
 use Rattle.checker.specs.Laws.{onList}
 use Rattle.checker.proofs.ListLaws.{on-holds}
-use Rattle.run.proofs.EndLaws.{result-ends, truth-tells}
+use Rattle.run.proofs.EndLaws.{error-inside, failure-inside}
+use Rattle.run.proofs.SlotLaws.{few-nodes}
 
 -- ---- the node of an error
-few-nodes : (t : List ℤ) → length (nodesOf t) / 4 ≤ sizesOf t .nodes
-unfolding nodesOf
-few-nodes t = simp length-take (omega arith)
-
 module _ (t vs ws : List ℤ) (e p n k q : ℕ) where
   arith-named : result (arithAt (nodesOf t) e) vs ws p ≡ Error n k q → n < sizesOf t .nodes
-  arith-named r = omega (arith, few-nodes t, (rw r at (result-ends (nodesOf t) vs ws e p)) .1)
+  arith-named r = omega (arith, few-nodes t, error-inside (nodesOf t) vs ws e p refl r .0)
 
   cond-named : truth (condAt (nodesOf t) e) vs ws p ≡ Failure n k q → n < sizesOf t .nodes
-  cond-named r = omega (arith, few-nodes t, (rw r at (truth-tells (nodesOf t) vs ws e p)) .1)
+  cond-named r = omega (arith, few-nodes t, failure-inside (nodesOf t) vs ws e p refl r .0)
 
 -- ---- the list
 listed-at : (t w : List ℤ) (p n k : ℕ) → p < sizesOf t .points → reachedOf w p ≡ true → n < sizesOf t .nodes → IsKind k

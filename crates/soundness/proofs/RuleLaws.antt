@@ -26,10 +26,9 @@ use Rattle.words.specs.Words.{wordOf}
 use Rattle.words.proofs.Bools.{clash, and-true, and-left, and-right}
 use Rattle.words.proofs.FirstLaws.{allBelow-each, someBelow-one, one-someBelow}
 use Rattle.table.specs.declared.Point.the-variants.{Assign, Unlock}
-use Rattle.table.specs.Layout.{sizesOf, sharesOf, pointsOf, firstOf, taskOf}
+use Rattle.table.specs.Layout.{sizesOf, pointsOf, firstOf, taskOf}
 use Rattle.table.specs.Decode.{pointOf}
 use Rattle.table.specs.Passes.{Passes}
-use Rattle.table.proofs.TaskLaws.{first-le}
 use Rattle.table.proofs.PassLaws.{passes}
 use Rattle.analysis.specs.Rows.{Row, Inside}
 use Rattle.rules.specs.Held.{hasOf, disjointOf}
@@ -38,6 +37,7 @@ use Rattle.rules.specs.Outcomes.{Outcome, rowWithinOf, writtenOf, outcomeIf, on
 use Rattle.rules.specs.Rules.{minusOne, implies, allOutcomes, heldInRange, rule9, holdsStart, isFirst, startPoint, rule11, heldFits, locksFit, rowsFit, rule12, rule13, files, filed, writes, rule14, takes, disturbs, undisturbed, rule15, rests, restPoint, restEntry, rule16}
 use Rattle.checker.specs.Laws.{Accepts}
 use Rattle.run.specs.State.{valuesOf}
+use Rattle.run.proofs.SlotLaws.{first-point}
 use Rattle.soundness.specs.Safe.{Reached}
 use Rattle.soundness.proofs.HeldLaws.{few-small}
 use Rattle.soundness.proofs.RowLaws.{Past, within-inside, start-inside}
@@ -121,14 +121,11 @@ module _ {t w : List ℤ} {room count : ℕ} (ok : Accepts t w room count) where
   reached-test p r = let small = held-small p r in ap not (ne-eqb (heldOf w p) 4294967295 (λ e. omega arith))
 
   -- 11
-  pub first-point : (u : ℕ) → u < sizesOf t .tasks → firstOf t u < sizesOf t .points
-  unfolding firstOf
-  first-point u h = omega (arith, formed .share u h, first-le (sharesOf t) (suc u) (sizesOf t .tasks) h, formed .sum)
-
   first-start : (u : ℕ) → u < sizesOf t .tasks → eqb (heldOf w (firstOf t u)) 0 && holdsStart t (rowAt t w (firstOf t u)) ≡ true
   unfolding rule11 startPoint
   first-start u h =
-      implied (isFirst t (firstOf t u)) _ (low-place (firstOf t u) _ _ _ (ok .start (firstOf t u) (omega (arith, first-point u h))) (first-point u h))
+      let p = first-point formed u h in
+      implied (isFirst t (firstOf t u)) _ (low-place (firstOf t u) _ _ _ (ok .start (firstOf t u) (omega arith)) p)
       (one-someBelow (λ k. eqb (firstOf t k) (firstOf t u)) (sizesOf t .tasks) u h (eq-eqb (firstOf t u) (firstOf t u) refl))
 
   pub first-held : (u : ℕ) → u < sizesOf t .tasks → heldOf w (firstOf t u) ≡ 0

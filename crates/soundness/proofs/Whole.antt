@@ -26,10 +26,11 @@ use Rattle.run.specs.State.{pointIn, ownerIn, isNumber, ownsOf, freeOf, firstsO
 use Rattle.run.specs.Step.{runsOf, turnBy, turnOf, stepBy, stepOf}
 use Rattle.run.specs.Run.{after, lastOf, runOf}
 use Rattle.run.proofs.RunLaws.{run-stage, run-last}
+use Rattle.run.proofs.SlotLaws.{first-point}
 use Rattle.soundness.specs.Safe.{Reached, HoldsNamed, Safe}
 use Rattle.soundness.specs.Claim.{listOf, Claim}
 use Rattle.soundness.proofs.HeldLaws.{has-none}
-use Rattle.soundness.proofs.RuleLaws.{formed, first-point, first-held, first-row, rest-start}
+use Rattle.soundness.proofs.RuleLaws.{formed, first-held, first-row, rest-start}
 use Rattle.soundness.proofs.Invariant.{neither, Inv, inv-safe}
 use Rattle.soundness.proofs.StepLaws.{act-keeps}
 
@@ -69,7 +70,7 @@ module _ {t w : List ℤ} {room count : ℕ} (ok : Accepts t w room count) where
         n-nodes = length-tabulate _ 8;
         n-kinds = refl;
         own = at-start (λ u p. taskOf t p ≡ u) (λ u hu. formed ok .owner u (firstOf t u) hu (omega arith) (formed ok .share u hu));
-        stands = at-start (λ u p. Reached t w p) (λ u hu. record { point = first-point ok u hu; held = first-reached u hu });
+        stands = at-start (λ u p. Reached t w p) (λ u hu. record { point = first-point (formed ok) u hu; held = first-reached u hu });
         holds = λ u m hu hm. at-start (λ u p. HoldsNamed (ownsOf (startOf t) u m) (hasOf (heldOf w p) m))
             (λ u hu. neither _ _ (ap (λ (z : ℤ). isNumber z u) (start-owner m hm)) (ap (λ (k : ℕ). hasOf k m) (first-held ok u hu) ∙ has-none m))
             u hu;

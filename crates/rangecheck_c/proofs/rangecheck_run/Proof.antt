@@ -1,6 +1,5 @@
 -- `rangecheck_c::rangecheck_run` meets its contract: the table's refusal, that of a short slice, or the last state's words. Assumes nothing.
 use borrow.Author.Needs.{needs}
-use Rattle.rangecheck_c.proofs.FitLaws.{run-fits}
 use Rattle.rangecheck_c.proofs.AnswerLaws.{broken, short, laid}
 use Rattle.rangecheck_c.proofs.rangecheck_run.Statement.{statement}
 use Rattle.rangecheck_c.proofs.rangecheck_run.Tie as tie
@@ -14,11 +13,6 @@ too-short : tie.Need-returns-2
 too-short c =
     let passed = c .before .before in
     short _ _ _ (passed .before .before .run .ensures .0) (passed .enum-told .given .1) (c .before .if1 .taken) (c .refused2 .ensures)
-
-lay-requires : tie.Need-lay-requires
-lay-requires c κs =
-    let passed = c .before .before in
-    (run-fits _ _ (passed .before .before .run .ensures .0) (passed .enum-told .given .1), c .before .if1 .left)
 
 all-laid : tie.Need-returns-3
 all-laid c =
@@ -38,7 +32,7 @@ rangecheck-run-spec =
     (λ c. search needs)
     (λ c κs. search needs)
     too-short
-    lay-requires
+    (λ c κs. c .before .if1 .left)
     (λ c κs. search needs)
     (λ c. search needs)
     all-laid)

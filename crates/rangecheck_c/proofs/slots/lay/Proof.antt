@@ -36,8 +36,8 @@ lay-spec =
     (tie.spec
     Inv-loop
     μ-loop
-    (λ c. fill (c .pre .1))
-    (λ c κs. c .before .before .pre .0)
+    (λ c. fill (c .pre))
+    (λ c κs. search needs)
     (λ c. search needs)
     inside
     (λ c. search needs)

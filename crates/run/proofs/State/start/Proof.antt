@@ -12,11 +12,11 @@ start-spec =
     (λ c κs. search needs)
     (λ c κs. search needs)
     (λ c κs. search needs)
-    (λ c κs. search needs)
-    (λ c κs. search needs)
+    (λ c κs. let sizes = c .before .before in rw (sizes .sizes .ensures .0) (sizes .before .pre .mutexes .high))
+    (λ c κs. let sizes = c .before .before .before in rw (sizes .sizes .ensures .0) (sizes .before .pre .tasks .high))
     (λ c.
     let stops = c .before in
     let owners = stops .before in
     let values = owners .before in
     let sizes = values .before in
-    rw (values .start-points .ensures, owners .start-values .ensures, stops .free-slots .ensures, c .free-slots2 .ensures, sizes .sizes .ensures .0)))
+    rw (values .start-points .ensures, owners .start-values .ensures, stops .free-owners .ensures, c .free-nodes .ensures, sizes .sizes .ensures .0)))

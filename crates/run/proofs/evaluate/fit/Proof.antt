@@ -2,6 +2,9 @@
 -- Assumes nothing.
 use mathlib.Core.Path.{_≡_}
 use mathlib.Core.Bool.{true}
+use native.Mathlib.Omega.{arith}
+use borrow.Author.Needs.{needs}
+use lib.Signed.{leZ}
 use mir.Facts.{toZ-ofZ}
 use mir.Syntax.{w32}
 use mir.Val.{SFits}
@@ -11,7 +14,7 @@ use Rattle.interval.specs.Arithmetic.{isWord}
 use Rattle.interval.proofs.IntegerLaws.{leZ-yes′}
 use Rattle.interval.proofs.Machine.{fits32}
 use Rattle.table.specs.Meaning.{fit, fitBy}
-use lib.Signed.{leZ}
+use Rattle.run.proofs.CodeLaws.{word-code, word-is, error-given}
 use Rattle.run.proofs.evaluate.fit.Statement.{statement}
 use Rattle.run.proofs.evaluate.fit.Tie as tie
 
@@ -25,11 +28,14 @@ fits c =
 
 there : tie.Need-returns
 unfolding fit fitBy
-there c = rw (toZ-ofZ (c .before .fits .z), is-word c, toZ-ofZ (fits c))
+there c = rw (toZ-ofZ (c .before .fits .z), is-word c) (λ p. word-is p (fits c), word-code (fits c))
 
 past : tie.Need-returns-2
 unfolding fit fitBy
-past c = rw (rw (toZ-ofZ (c .before .fits .z)) at (c .if1 .left))
+past c =
+    let start = c .before .before in
+    rw (rw (toZ-ofZ (start .fits .z)) at (c .before .if1 .left))
+    (error-given _ 1 (start .pre) (omega arith) (omega arith) (c .failed .ensures) (c .failed .ok))
 
 pub fit-spec : {M : Type 1} → statement M
-fit-spec = tie.close (tie.spec (λ c. rw (toZ-ofZ (c .before .fits .z)) (fits c)) there past)
+fit-spec = tie.close (tie.spec (λ c κs. search needs) there past)

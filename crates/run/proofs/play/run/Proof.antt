@@ -1,8 +1,13 @@
 -- `run::play::run` meets its contract: what `validate` says decides the definition, and its numbers are handed on. Assumes nothing.
+use mathlib.Core.Path.{sym, _∙_}
 use borrow.Author.Needs.{needs}
+use Rattle.table.proofs.PassLaws.{passes}
 use Rattle.run.specs.Run.{playedBy, runOf}
 use Rattle.run.proofs.play.run.Statement.{statement}
 use Rattle.run.proofs.play.run.Tie as tie
+
+passed : tie.Need-play-requires
+passed c κs = passes _ (sym (c .before .before .validate .ensures .0) ∙ c .enum-told .given .1)
 
 played : tie.Need-returns
 unfolding runOf playedBy
@@ -24,7 +29,7 @@ run-spec =
     (tie.spec
     (λ c κs. search needs)
     (λ c. search needs)
-    (λ c κs. search needs)
+    passed
     (λ c. search needs)
     (λ c κs. search needs)
     played

@@ -1,9 +1,16 @@
 -- `run::step::advance` meets its contract: no word is left, or the word is no task's that goes on, or its task acts. Assumes nothing.
 use mathlib.Core.Path.{refl}
 use borrow.Author.Needs.{needs}
-use Rattle.run.proofs.StepLaws.{no-word, no-turn, turn}
+use denote.Ref.{now}
+use Rattle.run.specs.declared.State.{State}
+use Rattle.run.specs.State.{stateOf}
+use Rattle.run.proofs.StepLaws.{no-word, no-turn, turn, goes-on}
 use Rattle.run.proofs.step.advance.Statement.{statement}
 use Rattle.run.proofs.step.advance.Tie as tie
+
+-- the state before
+abbrev before : tie.Start → State
+before c = stateOf (now (c .args .points)) (now (c .args .values)) (now (c .args .owners)) (now (c .args .stop-nodes)) (now (c .args .stop-kinds))
 
 no-turn-now : tie.Need-returns-2
 no-turn-now c =
@@ -11,13 +18,18 @@ no-turn-now c =
     let n = runs .before .before in
     no-turn _ _ _ _ (n .before .if1 .left) (n .number-at .ensures .0) (runs .runs .ensures) (c .if2 .taken) refl
 
+act-requires : tie.Need-act-requires
+act-requires c κs =
+    let goes = c .before .before .before .before .before in
+    let start = goes .before .before .before .before .before in
+    (start .pre .0, start .pre .1, goes-on (now (start .args .table)) (before start) _ (goes .before .runs .ensures) (goes .if2 .left))
+
 acts : tie.Need-returns-3
 acts c =
-    let act = c .before .before .before .before .before .before .before in
-    let goes = act .before .before .before .before .before .before in
+    let goes = c .before .before .before .before .before .before in
     let runs = goes .before in
     let n = runs .before .before in
-    turn _ _ _ _ (n .before .if1 .left) (n .number-at .ensures .0) (runs .runs .ensures) (goes .if2 .left) (act .act .ensures)
+    turn _ _ _ _ (n .before .if1 .left) (n .number-at .ensures .0) (runs .runs .ensures) (goes .if2 .left) (c .act .ensures)
 
 pub advance-spec : {M : Type 1} → statement M
 advance-spec =
@@ -25,15 +37,9 @@ advance-spec =
     (tie.spec
     (λ c. no-word _ _ _ _ (c .if1 .taken) refl)
     (λ c κs. search needs)
-    (λ c κs. search needs)
-    (λ c. search needs)
+    (λ c κs. let start = c .before .before .before in start .pre .0 .tasks .high)
     (λ c. search needs)
     no-turn-now
     (λ c. search needs)
-    (λ c κs. search needs)
-    (λ c. search needs)
-    (λ c. search needs)
-    (λ c. search needs)
-    (λ c. search needs)
-    (λ c. search needs)
+    act-requires
     acts)

@@ -1,47 +1,57 @@
--- `run::step::assign` meets its contract: the task goes on with the value stored, or stops at a node of the table. Assumes nothing.
-use native.Mathlib.Omega.{arith}
+-- `run::step::assign` meets its contract: the task goes on with the value stored, or stops at the node of the error. Assumes nothing.
 use borrow.Author.Needs.{needs}
-use Rattle.words.proofs.Signed.{read-back}
-use Rattle.run.proofs.EndLaws.{error-inside}
+use Rattle.words.proofs.Bools.{holds, fails}
+use Rattle.interval.proofs.MachineArithmetic.{handed32}
+use Rattle.run.proofs.CodeLaws.{value-of, error-taken, handed-code, handed-value}
 use Rattle.run.proofs.StepLaws.{assigned, assign-stopped}
 use Rattle.run.proofs.step.assign.Statement.{statement}
 use Rattle.run.proofs.step.assign.Tie as tie
 
-stop-requires : tie.Need-stop-requires
-stop-requires c κs =
-    let is = c .before .before .before in
-    let value = is .before .before in
-    let start = value .before .before .before .before in
-    omega (arith, start .good .1 .1 .1 .1 .0, error-inside _ _ _ _ _ (value .value .ensures) (is .x2 .given .1))
+error-node-requires : tie.Need-error-node-requires
+error-node-requires c κs =
+    let error = c .before .before in
+    let value = error .before .before .value in
+    handed-code (value .ok) (value .ensures .1) .failed (holds (error .before .is-error .ensures) (error .if1 .taken))
 
-returns : tie.Need-returns
-returns c o =
-    let written = c .before .before .before .before .before in
-    let told = written .before .before in
-    let is = told .before in
-    assigned _ _ _ _ (is .before .before .value .ensures) (is .x .given .1) (read-back (told .known-told .given .0 .1)) (written .put-value .ensures)
-    (c .before .before .put-number .ensures)
+error-kind-requires : tie.Need-error-kind-requires
+error-kind-requires c κs = error-node-requires (c .before) κs
 
-returns-2 : tie.Need-returns-2
-returns-2 c o =
-    let stop = c .before .before .before in
-    let is = stop .before .before .before .before in
-    assign-stopped _ _ _ _ (is .before .before .value .ensures) (is .x2 .given .1) (stop .stop .ensures .0) (stop .stop .ensures .1)
+word-of-requires : tie.Need-word-of-requires
+word-of-requires c κs =
+    let value = c .before .before .value in
+    handed-code (value .ok) (value .ensures .1) .word (fails (c .before .is-error .ensures) (c .if1 .left))
+
+stopped : tie.Need-returns
+stopped c o =
+    let kind = c .before in
+    let node = kind .before in
+    let error = node .before .before .before in
+    let value = error .before .before .value in
+    let test = holds (error .before .is-error .ensures) (error .if1 .taken) in
+    assign-stopped _ _ _ _ (handed-value (value .ok) _ (value .ensures) .0)
+    (error-taken _ _ test (node .error-node .ensures .0) (kind .error-kind .ensures .0)) (c .stop .ensures .0) (c .stop .ensures .1)
+
+goes-on : tie.Need-returns-2
+goes-on c o =
+    let went = c .before in
+    let value = went .before .before .value in
+    let test = fails (went .before .is-error .ensures) (went .if1 .left) in
+    assigned _ _ _ _ (handed-value (value .ok) _ (value .ensures) .0) (value-of _ _ test) (handed32 (c .word-of .ensures) (c .word-of .ok))
 
 pub assign-spec : {M : Type 1} → statement M
 assign-spec =
     tie.close
     (tie.spec
     (λ c κs. search needs)
-    (λ c. search needs)
     (λ c κs. search needs)
+    error-node-requires
+    error-kind-requires
     (λ c κs. search needs)
-    (λ c. search needs)
-    stop-requires
-    (λ c. search needs)
-    (λ c. search needs)
-    returns
+    word-of-requires
     (λ c. search needs)
     (λ c. search needs)
     (λ c. search needs)
-    returns-2)
+    (λ c. search needs)
+    (λ c. search needs)
+    stopped
+    goes-on)

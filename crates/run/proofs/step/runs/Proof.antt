@@ -1,5 +1,6 @@
--- `run::step::runs` meets its contract: the numbers that were read are the definition's. Assumes nothing.
+-- `run::step::runs` meets its contract: the test decides the definition. Assumes nothing.
 use borrow.Author.Needs.{needs}
+use borrow.Author.Tests.{lt-ltb, le-ltb}
 use Rattle.run.proofs.step.runs.Statement.{statement}
 use Rattle.run.proofs.step.runs.Tie as tie
 
@@ -8,5 +9,6 @@ runs-spec =
     tie.close
     (tie.spec
     (λ c κs. search needs)
-    (λ c κs. search needs)
-    (λ c. rw (c .before .number-at .ensures .0, c .number-in .ensures)))
+    (λ c. search needs)
+    (λ c. let is = c .before .before in rw (← is .number-at .ensures .0, lt-ltb _ _ (c .before .if1 .taken)))
+    (λ c. rw (← c .before .number-at .ensures .0, le-ltb _ _ (c .if1 .left))))

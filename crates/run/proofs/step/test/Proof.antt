@@ -1,42 +1,52 @@
--- `run::step::test` meets its contract: the task goes on at the side that holds, or stops at a node of the table. Assumes nothing.
-use native.Mathlib.Omega.{arith}
+-- `run::step::test` meets its contract: the task goes on at the side that holds, or stops at the node of the error. Assumes nothing.
 use borrow.Author.Needs.{needs}
-use Rattle.run.proofs.EndLaws.{failure-inside}
+use Rattle.words.proofs.Bools.{holds, fails}
+use Rattle.run.proofs.CodeLaws.{truth-taken, failure-taken, handed-code, handed-truth}
 use Rattle.run.proofs.StepLaws.{tested, test-stopped}
 use Rattle.run.proofs.step.test.Statement.{statement}
 use Rattle.run.proofs.step.test.Tie as tie
 
-stop-requires : tie.Need-stop-requires
-stop-requires c κs =
-    let is = c .before .before .before in
-    let verity = is .before .before in
-    let start = verity .before .before .before in
-    omega (arith, start .good .1 .1 .1 .1 .0, failure-inside _ _ _ _ _ (verity .verity .ensures) (is .x2 .given .1))
+error-node-requires : tie.Need-error-node-requires
+error-node-requires c κs =
+    let error = c .before .before in
+    let verity = error .before .before .verity in
+    handed-code (verity .ok) (verity .ensures .1) .failed (holds (error .before .is-error .ensures) (error .if1 .taken))
 
-returns : tie.Need-returns
-returns c o =
-    let put = c .before .before in
-    let is = put .before .before .before .before in
-    tested _ _ _ _ (is .before .before .verity .ensures) (is .x .given .1) (put .before .pick .ensures) (put .put-number .ensures)
+error-kind-requires : tie.Need-error-kind-requires
+error-kind-requires c κs = error-node-requires (c .before) κs
 
-returns-2 : tie.Need-returns-2
-returns-2 c o =
-    let stop = c .before .before .before in
-    let is = stop .before .before .before .before in
-    test-stopped _ _ _ _ (is .before .before .verity .ensures) (is .x2 .given .1) (stop .stop .ensures .0) (stop .stop .ensures .1)
+stopped : tie.Need-returns
+stopped c o =
+    let kind = c .before in
+    let node = kind .before in
+    let error = node .before .before .before in
+    let verity = error .before .before .verity in
+    let test = holds (error .before .is-error .ensures) (error .if1 .taken) in
+    test-stopped _ _ _ _ (handed-truth (verity .ok) _ (verity .ensures) .0)
+    (failure-taken _ _ test (node .error-node .ensures .0) (kind .error-kind .ensures .0)) (c .stop .ensures .0) (c .stop .ensures .1)
+
+goes-on : tie.Need-returns-2
+goes-on c o =
+    let truth = c .before in
+    let went = truth .before in
+    let verity = went .before .before .verity in
+    let test = fails (went .before .is-error .ensures) (went .if1 .left) in
+    tested _ _ _ _ (handed-truth (verity .ok) _ (verity .ensures) .0) (truth-taken _ _ test (truth .is-true .ensures)) (c .pick .ensures)
 
 pub test-spec : {M : Type 1} → statement M
 test-spec =
     tie.close
     (tie.spec
     (λ c κs. search needs)
-    (λ c. search needs)
+    (λ c κs. search needs)
+    error-node-requires
+    error-kind-requires
     (λ c κs. search needs)
     (λ c κs. search needs)
     (λ c. search needs)
-    stop-requires
     (λ c. search needs)
-    returns
+    (λ c κs. search needs)
     (λ c. search needs)
     (λ c. search needs)
-    returns-2)
+    stopped
+    goes-on)
