@@ -4,9 +4,7 @@
 use Prim.Native.Nat.{ℕ, _<_, _≤_}
 use mathlib.Core.Path.{_≡_, refl}
 use mathlib.Core.Bool.{Bool, true, false}
-use mathlib.Core.List.{List, [], _∷_}
-use types.Run.{OneOf, miss}
-use denote.Enum.Declared.{tagOf}
+use mathlib.Core.List.{List}
 use borrow.Author.Tests.{lt-ltb, le-ltb, eq-eqb, ne-eqb}
 use lib.Dec.{eqb}
 use lib.IntN.{ℤ}
@@ -14,11 +12,10 @@ use lib.ListN.{length}
 use Rattle.interval.specs.declared.Interval.{Interval}
 use Rattle.interval.specs.declared.Interval.the-variants.{None, Between}
 use Rattle.interval.specs.declared.Cuts.{Cuts}
-use Rattle.table.specs.declared.Shape.{Shape}
-use Rattle.table.specs.declared.Shape.the-variants.{Constant, Input, Variable, Negation, Binary, Choice, Compare, Both, Either, Not, Bad}
-use Rattle.table.specs.Decode.{shapeOf}
-use Rattle.table.specs.Tree.{Arith, Cond, arithBy, arithAt, condAt}
-use Rattle.table.proofs.Shape.{the-type}
+use Rattle.table.specs.declared.Shape.the-variants.{Variable}
+use Rattle.table.specs.Decode.{shapeBy, shapeOf}
+use Rattle.table.specs.Tree.{arithBy, arithAt, condAt}
+use Rattle.table.proofs.KindLaws.{shape-all}
 use Rattle.table.proofs.TreeLaws.{arith-of}
 use Rattle.analysis.specs.Rows.{Row, Maybe, none, some, maybeBy, thenRow, putOf, meetAtOf, joinRowsOf}
 use Rattle.analysis.specs.Arrays.{rowIn}
@@ -28,24 +25,6 @@ use Rattle.analysis.proofs.RowCodeLaws.{join-none, all-lows, all-highs}
 use Rattle.analysis.proofs.JoinLaws.{there}
 
 -- ---- the variable that a node is
--- the tags of the shapes that are no variable, and that these name none
-abbrev noVariable : List ℕ
-noVariable = 0 ∷ 1 ∷ 3 ∷ 4 ∷ 5 ∷ 6 ∷ 7 ∷ 8 ∷ 9 ∷ 10 ∷ []
-
-no-variable : (a : ℕ → Arith) (c : ℕ → Cond) (n p : ℕ) (s : Shape) → OneOf noVariable (tagOf the-type s) → variableOr p (arithBy a c n s) ≡ p
-unfolding arithBy variableOr
-no-variable a c n p (Constant z) o = refl
-no-variable a c n p (Input x y) o = refl
-no-variable a c n p (Variable v) o = absurd (miss noVariable 2 tt o)
-no-variable a c n p (Negation x) o = refl
-no-variable a c n p (Binary op x y) o = refl
-no-variable a c n p (Choice x y z) o = refl
-no-variable a c n p (Compare k x y) o = refl
-no-variable a c n p (Both x y) o = refl
-no-variable a c n p (Either x y) o = refl
-no-variable a c n p (Not x) o = refl
-no-variable a c n p Bad o = refl
-
 module _ (ns : List ℤ) (n p : ℕ) where
   pub variable-is : {v : ℕ} → shapeOf ns n ≡ Variable v → v < 16 → variableOr p (arithAt ns n) ≡ v
   unfolding arithBy variableOr
@@ -55,8 +34,23 @@ module _ (ns : List ℤ) (n p : ℕ) where
   unfolding arithBy variableOr
   variable-past {v} e h = rw (arith-of ns n e, le-ltb v 16 h)
 
-  pub variable-none : {s : Shape} → shapeOf ns n ≡ s → OneOf noVariable (tagOf the-type s) → variableOr p (arithAt ns n) ≡ p
-  variable-none {s} e o = rw (arith-of ns n e) (no-variable (arithAt ns) (condAt ns) n p s o)
+  -- a node of any other kind names none
+  pub variable-none : (k : ℕ) (x y : ℤ) (a b c : ℕ) → shapeOf ns n ≡ shapeBy n k x y a b c → (k ≡ 2 → ⊥) → variableOr p (arithAt ns n) ≡ p
+  unfolding arithBy variableOr
+  variable-none k x y a b c e h =
+      rw (arith-of ns n e) (shape-all (λ s. variableOr p (arithBy (arithAt ns) (condAt ns) n s) ≡ p) n k x y a b c (record {
+        constant = λ e. refl;
+        input = λ e. refl;
+        variable = λ e. absurd (h e);
+        negation = λ e l. refl;
+        binary = λ op o l. refl;
+        choice = λ e l. refl;
+        comparison = λ q l m o. refl;
+        both = λ e l. refl;
+        either = λ e l. refl;
+        isNot = λ e l. refl;
+        bad = refl;
+      }))
 
 -- ---- two cuts put in place: what the first put gave decides whether the second is asked
 module _ (r s : Row) (v w : ℕ) (u : Cuts) (t : Bool) (first : maybeBy t s ≡ putOf r v (u .left)) where

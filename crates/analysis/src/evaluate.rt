@@ -33,6 +33,8 @@ use interval::integer::max32;
 use interval::lattice::join;
 use interval::narrow::cuts;
 use table::Shape;
+use table::decode::node_at;
+use table::decode::operation_of;
 use table::decode::shape_at;
 ghost use mathlib.Core.Path.{_≡_};
 ghost use mathlib.Core.Bool.{true, false, not};
@@ -50,26 +52,31 @@ pub fn value<'a, 'b, 'c>(nodes: &'a [i32], n: usize, row: &'b Row, marks: &'c mu
     ensures { λ r. ⌜ r ≡ valueOf (arithAt (now (nodes .entry)) n) (rowIn (now (row .entry))) ⌝ }
     ensures { λ r. ⌜ now (marks .exit) ≡ markedOf (now (marks .entry)) (alarmsOf (arithAt (now (nodes .entry)) n) (rowIn (now (row .entry)))) ⌝ }
 {
-    let s = shape_at(nodes, n);
-    match s {
-        Shape::Constant(z) => Interval::Between(z, z),
-        Shape::Input(a, b) => Interval::Between(a, max32(a, b)),
-        Shape::Variable(v) => range_in(row, v),
-        Shape::Negation(a) => {
-            let x = value(nodes, a, row, marks);
+    let f = node_at(nodes, n);
+    let k = f.kind;
+    match k {
+        0 => Interval::Between(f.x, f.x),
+        1 => Interval::Between(f.x, max32(f.x, f.y)),
+        2 => range_in(row, f.a),
+        3 => if f.a < n {
+            let x = value(nodes, f.a, row, marks);
             mark_told(marks, n, negate(x))
-        }
-        Shape::Binary(op, a, b) => {
-            let x = value(nodes, a, row, marks);
-            let y = value(nodes, b, row, marks);
-            mark_told(marks, n, operate(op, x, y))
-        }
-        Shape::Choice(c, a, b) => choose(nodes, c, a, b, row, marks),
-        Shape::Compare(_, _, _) => Interval::Between(0, 0),
-        Shape::Both(_, _) => Interval::Between(0, 0),
-        Shape::Either(_, _) => Interval::Between(0, 0),
-        Shape::Not(_) => Interval::Between(0, 0),
-        Shape::Bad => Interval::Between(0, 0),
+        } else {
+            Interval::Between(0, 0)
+        },
+        4..=7 | 9 => if (f.a < n) & (f.b < n) {
+            let x = value(nodes, f.a, row, marks);
+            let y = value(nodes, f.b, row, marks);
+            mark_told(marks, n, operate(operation_of(k), x, y))
+        } else {
+            Interval::Between(0, 0)
+        },
+        8 => if (f.a < n) & ((f.b < n) & (f.c < n)) {
+            choose(nodes, f.a, f.b, f.c, row, marks)
+        } else {
+            Interval::Between(0, 0)
+        },
+        _ => Interval::Between(0, 0),
     }
 }
 
@@ -492,29 +499,30 @@ pub fn value_on<'a, 'b, 'c>(
     ensures { λ r. ⌜ r ≡ valueOf (arithAt (now (nodes .entry)) n) (ownOf (rowOf (now (lows .entry)) (now (highs .entry)))) ⌝ }
     ensures { λ r. ⌜ now (marks .exit) ≡ markedOf (now (marks .entry)) (alarmsOf (arithAt (now (nodes .entry)) n) (ownOf (rowOf (now (lows .entry)) (now (highs .entry))))) ⌝ }
 {
-    let s = shape_at(nodes, n);
-    match s {
-        Shape::Constant(z) => Interval::Between(z, z),
-        Shape::Input(a, b) => Interval::Between(a, max32(a, b)),
-        Shape::Variable(v) => slot(lows, highs, v),
-        Shape::Negation(a) => {
-            let x = value_on(nodes, a, lows, highs, marks);
+    let f = node_at(nodes, n);
+    let k = f.kind;
+    match k {
+        0 => Interval::Between(f.x, f.x),
+        1 => Interval::Between(f.x, max32(f.x, f.y)),
+        2 => slot(lows, highs, f.a),
+        3 => if f.a < n {
+            let x = value_on(nodes, f.a, lows, highs, marks);
             mark_told(marks, n, negate(x))
-        }
-        Shape::Binary(op, a, b) => {
-            let x = value_on(nodes, a, lows, highs, marks);
-            let y = value_on(nodes, b, lows, highs, marks);
-            mark_told(marks, n, operate(op, x, y))
-        }
-        Shape::Choice(_, _, _) => {
+        } else {
+            Interval::Between(0, 0)
+        },
+        4..=7 | 9 => if (f.a < n) & (f.b < n) {
+            let x = value_on(nodes, f.a, lows, highs, marks);
+            let y = value_on(nodes, f.b, lows, highs, marks);
+            mark_told(marks, n, operate(operation_of(k), x, y))
+        } else {
+            Interval::Between(0, 0)
+        },
+        8 => {
             let row = own(lows, highs);
             value(nodes, n, &row, marks)
         }
-        Shape::Compare(_, _, _) => Interval::Between(0, 0),
-        Shape::Both(_, _) => Interval::Between(0, 0),
-        Shape::Either(_, _) => Interval::Between(0, 0),
-        Shape::Not(_) => Interval::Between(0, 0),
-        Shape::Bad => Interval::Between(0, 0),
+        _ => Interval::Between(0, 0),
     }
 }
 

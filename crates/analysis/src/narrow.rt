@@ -9,6 +9,7 @@ use interval::Cuts;
 use interval::Interval;
 use interval::lattice::meet;
 use table::Shape;
+use table::decode::node_at;
 use table::decode::shape_at;
 use table::formed::kind_at;
 ghost use mathlib.Core.Path.{_≡_};
@@ -24,9 +25,10 @@ ghost use Rattle.analysis.specs.Cuts.{variableOr, cutRowOf, metIf};
 pub fn variable_or(nodes: &[i32], n: usize, past: usize) -> usize
     ensures { λ r. ⌜ r ≡ variableOr past (arithAt (now (nodes .entry)) n) ⌝ }
 {
-    let shape = shape_at(nodes, n);
-    match shape {
-        Shape::Variable(v) => if v < 16 { v } else { past },
+    let f = node_at(nodes, n);
+    let k = f.kind;
+    match k {
+        2 => if f.a < 16 { f.a } else { past },
         _ => past,
     }
 }

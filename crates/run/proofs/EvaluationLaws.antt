@@ -27,7 +27,7 @@ use Rattle.table.specs.Meaning.{valueThen, valueThenTell, truthThen, truthThenG
 use Rattle.table.proofs.TreeLaws.{arith-of, cond-of}
 use Rattle.run.specs.Codes.{Code, evaluationOf, verityOf, kindPair}
 use Rattle.run.proofs.CodeLaws.{word-is, word-code, truth-is, truth-code}
-use Rattle.run.proofs.KindLaws.{pairShape}
+use Rattle.table.proofs.KindLaws.{pairShape}
 
 module _ (ns vs ws : List ℤ) where
   -- the outcome r is that of the arithmetic, or of the condition, at the node n from the position p on

@@ -17,7 +17,7 @@ use Rattle.table.specs.Decode.{shapeFrom, shapeOf}
 use Rattle.table.specs.Tree.{arithF, condF, arithAt, condAt}
 use Rattle.table.specs.Passes.{Passes}
 use Rattle.run.specs.Codes.{paddedOf, Kept}
-use Rattle.run.proofs.KindLaws.{four-words}
+use Rattle.table.proofs.KindLaws.{four-words}
 
 -- ---- words with zeros behind them
 zeros : (m i : ℕ) → wordOf (replicate m (pos 0)) i ≡ pos 0

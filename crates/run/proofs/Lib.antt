@@ -1,5 +1,4 @@
 pub mod CodeLaws
-pub mod KindLaws
 pub mod EvaluationLaws
 pub mod KeptLaws
 pub mod EndLaws

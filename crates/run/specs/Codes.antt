@@ -1,7 +1,7 @@
 -- What the evaluators give and take, in the form that the code has it: a result is one number, what a node does goes by the number of its kind, and
 -- a table's nodes lie in an array.
 -- Assumes nothing.
-use Prim.Native.Nat.{ℕ, _+_, _*_, _-_, _/_, _%_, _<_, _≤_}
+use Prim.Native.Nat.{ℕ, _+_, _*_, _-_, _/_, _%_}
 use mathlib.Core.Path.{_≡_}
 use mathlib.Core.Bool.{Bool, true, false, _&&_, _||_}
 use mathlib.Core.List.{List, _++_}
@@ -12,10 +12,6 @@ use lib.Signed.{leZ, _≤ℤ_}
 use mir.Syntax.{w32}
 use mir.Val.{SFits}
 use Rattle.interval.specs.Integer.{eqZ}
-use Rattle.interval.specs.declared.Operation.{Operation}
-use Rattle.interval.specs.declared.Operation.the-variants.{Sum, Difference, Product, Quotient, Remainder}
-use Rattle.interval.specs.declared.Comparison.{Comparison}
-use Rattle.interval.specs.declared.Comparison.the-variants.{Less, AtMost, Equal, NotEqual}
 use Rattle.table.specs.declared.Evaluation.{Evaluation}
 use Rattle.table.specs.declared.Evaluation.the-variants.{Value, Error}
 use Rattle.table.specs.declared.Verity.{Verity}
@@ -72,19 +68,7 @@ verityOf z p = verityBy (isError z) z p
 abbrev pub truthNumber : Bool → ℤ
 truthNumber t = pick t (pos 1) (pos 0)
 
--- ---- what the kinds' numbers stand for
--- k is no input, no negation, no operation and no choice
-pub record Leaf (k : ℕ) : Type 0 where
-  pub no-input : k ≡ 1 → ⊥
-  pub no-parent : 3 ≤ k → 9 < k
-
--- the operation of the kinds 4 to 7 and 9, the comparison of the kinds 16 to 19, and what the kinds 20 and 21 make of two truths
-unfoldable pub kindOperation : ℕ → Operation
-kindOperation k = pick (eqb k 4) Sum (pick (eqb k 5) Difference (pick (eqb k 6) Product (pick (eqb k 7) Quotient Remainder)))
-
-unfoldable pub kindComparison : ℕ → Comparison
-kindComparison k = pick (eqb k 16) Less (pick (eqb k 17) AtMost (pick (eqb k 18) Equal NotEqual))
-
+-- what the kinds 20 and 21 make of two truths
 unfoldable pub kindPair : ℕ → Bool → Bool → Bool
 kindPair k t u = pick (eqb k 20) (t && u) (t || u)
 

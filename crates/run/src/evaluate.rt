@@ -9,6 +9,7 @@ use interval::integer::rem;
 use interval::integer::same;
 use interval::integer::times;
 use interval::integer::widen;
+use table::decode::both_below;
 use words::number;
 use words::word;
 ghost use mathlib.Core.Path.{_≡_};
@@ -26,7 +27,8 @@ ghost use Rattle.words.specs.Words.{wordOf, numberAt};
 ghost use Rattle.table.specs.declared.Verity.the-variants.{Truth};
 ghost use Rattle.table.specs.Tree.{arithAt, condAt};
 ghost use Rattle.table.specs.Meaning.{valueThen, valueThenTell, truthThen, fit as fitOf, performBy, perform as performOf, inputBy, result, truth};
-ghost use Rattle.run.specs.Codes.{isError, errorOf, errorNumber, errorNode, errorKind, Failed, Code, Leaf, evaluationOf, verityOf, truthNumber, kindOperation, kindComparison, kindPair};
+ghost use Rattle.table.specs.Decode.{Leaf, kindOperation, kindComparison};
+ghost use Rattle.run.specs.Codes.{isError, errorOf, errorNumber, errorNode, errorKind, Failed, Code, evaluationOf, verityOf, truthNumber, kindPair};
 
 // ---- words and errors as numbers
 
@@ -160,13 +162,6 @@ fn pair(k: usize, x: bool, y: bool) -> bool
     ensures { λ r. ⌜ r ≡ kindPair k x y ⌝ }
 {
     if k == 20 { x & y } else { x | y }
-}
-
-// Whether the nodes a and b are below n.
-fn both_below(n: usize, a: usize, b: usize) -> bool
-    ensures { λ r. ⌜ r ≡ ltb a n && ltb b n ⌝ }
-{
-    (a < n) & (b < n)
 }
 
 // ---- one node, from what its last operand came to

@@ -15,7 +15,7 @@ use Rattle.table.specs.declared.Four.{Four}
 use Rattle.table.specs.declared.Shape.{Shape}
 use Rattle.table.specs.declared.Shape.the-variants.{Bad}
 use Rattle.table.specs.declared.Point.{Point}
-use Rattle.table.specs.Decode.{kept, shapeBy, shapeFrom, pointBy, pointFrom}
+use Rattle.table.specs.Decode.{kept, shapeBy, shapeFrom, nodeFrom, pointBy, pointFrom}
 
 -- ---- a shape whose children are below it, and one with a child that is not
 pub kept-yes : {b : Bool} {s : Shape} → b ≡ true → s ≡ kept b s
@@ -59,10 +59,20 @@ pub number-back : (z : ℤ) {m : ℕ} → mag z < 2147483648 → m ≡ numberOf 
 number-back z p e = e ∙ ap numberOf (read-back p)
 
 pub shape-read :
-    (f : Four) (n : ℕ) {k a b c : ℕ} {x y : ℤ} {r : Shape} → k ≡ numberOf (f .kind) → x ≡ f .a → y ≡ f .b →
-    a ≡ numberOf (f .a) → b ≡ numberOf (f .b) → c ≡ numberOf (f .c) → r ≡ shapeBy n k x y a b c → r ≡ shapeFrom n f
+    (f : Four) (n : ℕ) {k a b c : ℕ} {x y : ℤ} → k ≡ numberOf (f .kind) → x ≡ f .a → y ≡ f .b → a ≡ numberOf (f .a) → b ≡ numberOf (f .b) → c ≡ numberOf (f .c) →
+    shapeFrom n f ≡ shapeBy n k x y a b c
 unfolding shapeFrom
-shape-read f n ek ex ey ea eb ec e = cc
+shape-read f n ek ex ey ea eb ec = rw (ek, ex, ey, ea, eb, ec)
+
+pub node-read :
+    (f : Four) {k a b c : ℕ} {x y : ℤ} → k ≡ numberOf (f .kind) → x ≡ f .a → y ≡ f .b → a ≡ numberOf (f .a) → b ≡ numberOf (f .b) → c ≡ numberOf (f .c) →
+    record { kind = k; x = x; y = y; a = a; b = b; c = c } ≡ nodeFrom f
+unfolding nodeFrom
+node-read f ek ex ey ea eb ec = rw (ek, ex, ey, ea, eb, ec)
+
+-- by a kind and fields that were read, the words x and y of two of them again from their bits
+pub shape-found : (n k a b c : ℕ) {v w x y : ℤ} {r s : Shape} → s ≡ shapeBy n k v w a b c → x ≡ v → y ≡ w → r ≡ shapeBy n k x y a b c → r ≡ s
+shape-found n k a b c e p q h = cc
 
 pub point-read :
     (f : Four) {k a b c : ℕ} {r : Point} → k ≡ numberOf (f .kind) → a ≡ numberOf (f .a) → b ≡ numberOf (f .b) → c ≡ numberOf (f .c) →

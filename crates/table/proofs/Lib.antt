@@ -1,5 +1,6 @@
 pub mod LayoutLaws
 pub mod DecodeLaws
+pub mod KindLaws
 pub mod FormedLaws
 pub mod TreeLaws
 pub mod TaskLaws

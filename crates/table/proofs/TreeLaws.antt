@@ -3,51 +3,31 @@
 -- Assumes nothing.
 use Prim.Native.Nat.{ℕ, zero, suc, _<_}
 use mathlib.Core.Path.{_≡_, refl, ap, ap₂}
-use mathlib.Core.Bool.{Bool, true, false, _&&_}
 use mathlib.Core.List.{List}
 use native.Mathlib.Omega.{arith}
-use borrow.Author.Tests.{ltb-true}
-use lib.Dec.{eqb, ltb}
 use lib.IntN.{ℤ}
-use Rattle.words.proofs.Bools.{and-left, and-right}
 use Rattle.table.specs.declared.Shape.{Shape}
 use Rattle.table.specs.declared.Shape.the-variants.{Constant, Input, Variable, Negation, Binary, Choice, Compare, Both, Either, Not, Bad}
-use Rattle.table.specs.Decode.{pick, kept, shapeBy, shapeFrom, shapeOf, Below}
+use Rattle.table.specs.Decode.{shapeBy, shapeFrom, shapeOf, Below}
 use Rattle.table.specs.Tree.{Arith, Cond, negation, binary, compare, both, either, isNot, arithBy, condBy, arithF, condF, arithAt, condAt}
+use Rattle.table.proofs.KindLaws.{shape-all}
 
 -- ---- the children are below the node
-below-pick : (n : ℕ) (t : Bool) (s r : Shape) → Below n s → Below n r → Below n (pick t s r)
-below-pick n true s r p q = p
-below-pick n false s r p q = q
-
-below-kept : (n : ℕ) (t : Bool) (s : Shape) → (t ≡ true → Below n s) → Below n (kept t s)
-unfolding kept
-below-kept n true s h = h refl
-below-kept n false s h = tt
-
 shapeBy-below : (n k : ℕ) (x y : ℤ) (a b c : ℕ) → Below n (shapeBy n k x y a b c)
-unfolding shapeBy
 shapeBy-below n k x y a b c =
-    let two : ltb a n && ltb b n ≡ true → (a < n) × (b < n) = λ e. (ltb-true a n (and-left _ _ e), ltb-true b n (and-right (ltb a n) _ e)) in
-    let three : ltb a n && (ltb b n && ltb c n) ≡ true → (a < n) × (b < n) × (c < n) =
-    λ e. let r = and-right (ltb a n) _ e in (ltb-true a n (and-left _ _ e), ltb-true b n (and-left _ _ r), ltb-true c n (and-right (ltb b n) _ r)) in
-    below-pick n (eqb k 0) _ _ tt
-    (below-pick n (eqb k 1) _ _ tt
-    (below-pick n (eqb k 2) _ _ tt
-    (below-pick n (eqb k 3) _ _ (below-kept n _ _ (ltb-true a n))
-    (below-pick n (eqb k 4) _ _ (below-kept n _ _ two)
-    (below-pick n (eqb k 5) _ _ (below-kept n _ _ two)
-    (below-pick n (eqb k 6) _ _ (below-kept n _ _ two)
-    (below-pick n (eqb k 7) _ _ (below-kept n _ _ two)
-    (below-pick n (eqb k 8) _ _ (below-kept n _ _ three)
-    (below-pick n (eqb k 9) _ _ (below-kept n _ _ two)
-    (below-pick n (eqb k 16) _ _ (below-kept n _ _ two)
-    (below-pick n (eqb k 17) _ _ (below-kept n _ _ two)
-    (below-pick n (eqb k 18) _ _ (below-kept n _ _ two)
-    (below-pick n (eqb k 19) _ _ (below-kept n _ _ two)
-    (below-pick n (eqb k 20) _ _ (below-kept n _ _ two)
-    (below-pick n (eqb k 21) _ _ (below-kept n _ _ two)
-    (below-pick n (eqb k 22) _ _ (below-kept n _ _ (ltb-true a n)) tt))))))))))))))))
+    shape-all (Below n) n k x y a b c (record {
+      constant = λ e. tt;
+      input = λ e. tt;
+      variable = λ e. tt;
+      negation = λ e l. l;
+      binary = λ op o l. l;
+      choice = λ e l. l;
+      comparison = λ q l m o. o;
+      both = λ e l. l;
+      either = λ e l. l;
+      isNot = λ e l. l;
+      bad = tt;
+    })
 
 pub children-below : (ns : List ℤ) (n : ℕ) → Below n (shapeOf ns n)
 unfolding shapeFrom

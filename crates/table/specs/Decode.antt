@@ -1,6 +1,7 @@
 -- What stands at a node and at a point, with no recursion (document 01, 'Task table'; document 02, request 1).
 -- Assumes nothing.
-use Prim.Native.Nat.{ℕ, _<_}
+use Prim.Native.Nat.{ℕ, _<_, _≤_}
+use mathlib.Core.Path.{_≡_}
 use mathlib.Core.Bool.{Bool, true, false, _&&_}
 use mathlib.Core.List.{List}
 use lib.Dec.{eqb, leb, ltb}
@@ -11,6 +12,7 @@ use Rattle.interval.specs.declared.Comparison.{Comparison}
 use Rattle.interval.specs.declared.Comparison.the-variants.{Less, AtMost, Equal, NotEqual}
 use Rattle.words.specs.Words.{numberOf, inside}
 use Rattle.table.specs.declared.Four.{Four}
+use Rattle.table.specs.declared.Node.{Node}
 use Rattle.table.specs.declared.Shape.{Shape}
 use Rattle.table.specs.declared.Shape.the-variants.{Constant, Input, Variable, Negation, Binary, Choice, Compare, Both, Either, Not, Bad}
 use Rattle.table.specs.declared.Point.{Point}
@@ -85,6 +87,26 @@ Below n (Both x y) = (x < n) × (y < n)
 Below n (Either x y) = (x < n) × (y < n)
 Below n (Not x) = x < n
 Below n Bad = Unit {0}
+
+-- ---- a node as the evaluators read it: its kind, the words of its first two fields, and the numbers of all three
+unfoldable pub nodeFrom : Four → Node
+nodeFrom f = record { kind = numberOf (f .kind); x = f .a; y = f .b; a = numberOf (f .a); b = numberOf (f .b); c = numberOf (f .c) }
+
+abbrev pub nodeOf : List ℤ → ℕ → Node
+nodeOf ns n = nodeFrom (fourOf ns n)
+
+-- ---- what the kinds' numbers stand for, where the code tells them apart itself. No definition of the table or of the analysis needs this
+-- k is no input, no negation, no operation and no choice
+pub record Leaf (k : ℕ) : Type 0 where
+  pub no-input : k ≡ 1 → ⊥
+  pub no-parent : 3 ≤ k → 9 < k
+
+-- the operation of the kinds 4 to 7 and 9, and the comparison of the kinds 16 to 19
+unfoldable pub kindOperation : ℕ → Operation
+kindOperation k = pick (eqb k 4) Sum (pick (eqb k 5) Difference (pick (eqb k 6) Product (pick (eqb k 7) Quotient Remainder)))
+
+unfoldable pub kindComparison : ℕ → Comparison
+kindComparison k = pick (eqb k 16) Less (pick (eqb k 17) AtMost (pick (eqb k 18) Equal NotEqual))
 
 -- ---- points
 -- '0 end; 1 assign variable a from arithmetic node b, go to c; 2 test condition node a, yes to b, no to c; 3 lock mutex a, go to b; 4 unlock

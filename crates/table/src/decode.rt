@@ -1,4 +1,5 @@
 // What stands at a node and at a point.
+use crate::Node;
 use crate::Point;
 use crate::Shape;
 use crate::layout::four;
@@ -8,10 +9,10 @@ use words::number;
 ghost use mathlib.Core.Path.{_≡_};
 ghost use mathlib.Core.Bool.{_&&_};
 ghost use lib.Dec.{ltb};
-ghost use Rattle.table.specs.Decode.{operationOf, comparisonOf, shapeBy, shapeOf, pointBy, pointOf};
+ghost use Rattle.table.specs.Decode.{operationOf, comparisonOf, shapeBy, shapeOf, nodeOf, kindOperation, pointBy, pointOf};
 
 // Whether both children are below their parent n.
-fn both_below(n: usize, a: usize, b: usize) -> bool
+pub fn both_below(n: usize, a: usize, b: usize) -> bool
     ensures { λ r. ⌜ r ≡ ltb a n && ltb b n ⌝ }
 {
     (a < n) & (b < n)
@@ -79,20 +80,41 @@ fn shape_by(n: usize, k: usize, x: i32, y: i32, a: usize, b: usize, c: usize) ->
     }
 }
 
+// The node n of a table's node words, whose kind and fields decide its shape.
+pub fn node_at(nodes: &[i32], n: usize) -> Node
+    ensures { λ r. ⌜ r ≡ nodeOf (now (nodes .entry)) n ⌝ }
+    ensures { λ r. ⌜ shapeOf (now (nodes .entry)) n ≡ shapeBy n (r .kind) (r .x) (r .y) (r .a) (r .b) (r .c) ⌝ }
+{
+    let f = four(nodes, n);
+    Node {
+        kind: number(f.kind),
+        x: f.a,
+        y: f.b,
+        a: number(f.a),
+        b: number(f.b),
+        c: number(f.c),
+    }
+}
+
 // The shape of the node n of a table's node words.
 pub fn shape_at(nodes: &[i32], n: usize) -> Shape
     ensures { λ r. ⌜ r ≡ shapeOf (now (nodes .entry)) n ⌝ }
 {
-    let f = four(nodes, n);
-    shape_by(
-        n,
-        number(f.kind),
-        f.a,
-        f.b,
-        number(f.a),
-        number(f.b),
-        number(f.c),
-    )
+    let f = node_at(nodes, n);
+    shape_by(n, f.kind, f.x, f.y, f.a, f.b, f.c)
+}
+
+// The operation of the kinds 4 to 7 and 9.
+pub fn operation_of(k: usize) -> Operation
+    ensures { λ r. ⌜ r ≡ kindOperation k ⌝ }
+{
+    match k {
+        4 => Operation::Sum,
+        5 => Operation::Difference,
+        6 => Operation::Product,
+        7 => Operation::Quotient,
+        _ => Operation::Remainder,
+    }
 }
 
 fn point_by(k: usize, a: usize, b: usize, c: usize) -> Point

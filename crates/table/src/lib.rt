@@ -25,6 +25,16 @@ pub struct Four {
     pub c: i32,
 }
 
+// A node as the evaluators read it: its kind, the words of its first two fields, and the numbers of all three.
+pub struct Node {
+    pub kind: usize,
+    pub x: i32,
+    pub y: i32,
+    pub a: usize,
+    pub b: usize,
+    pub c: usize,
+}
+
 // What stands at a node, its children by their numbers. Kinds 4 to 7 are one shape with the operation's name, and so are 16 to 19 with the
 // comparison's. Bad: an unknown kind, or a child that is not below its parent.
 pub enum Shape {

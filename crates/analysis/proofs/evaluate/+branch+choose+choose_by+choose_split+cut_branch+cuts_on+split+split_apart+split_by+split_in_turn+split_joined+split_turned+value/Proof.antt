@@ -5,12 +5,14 @@
 -- Assumes nothing.
 use mathlib.Core.Path.{refl, sym, ap, _∙_}
 use mathlib.Core.Bool.{not}
+use mathlib.Core.Logic.{⊎-elim}
 use native.Mathlib.Omega.{arith}
 use borrow.Author.Tests.{not-true, not-false}
 use Rattle.interval.proofs.MachineArithmetic.{handed32}
 use Rattle.words.proofs.Bools.{clash}
 use Rattle.words.proofs.Signed.{read-back}
 use Rattle.table.specs.Tree.{arithBy}
+use Rattle.table.proofs.KindLaws.{Operates, both-below, all-below, constant-shape, input-shape, variable-shape, negation-below, negation-bad, operation-below, operation-bad, choice-below, choice-bad, leaf-high, no-arith}
 use Rattle.table.proofs.TreeLaws.{children-of}
 use Rattle.analysis.proofs.BareLaws.{picked-most, bare-choice}
 use Rattle.analysis.proofs.WalkLaws.{branch-taken, branch-left-out, constant-valued, input-valued, variable-valued, negation-valued, binary-valued, choice-valued, chosen, cut-left-out, cut-taken, chosen-by, choice-by, no-value, sides-of, in-turn-splits, turned, turned-copy, turned-joined, turned-alone, joined-to, cuts-known, cut-leaves, one-slot, compare-splits, both-node-splits, either-node-splits, not-splits, no-splits, copy-known}
@@ -80,6 +82,8 @@ use Rattle.interval.proofs.compare.compare.Reads as compare-reads
 use Rattle.interval.proofs.integer.max32.Reads as max32-reads
 use Rattle.interval.proofs.lattice.join.Reads as join-reads
 use Rattle.interval.proofs.narrow.cuts.Reads as cuts-reads
+use Rattle.table.proofs.decode.node_at.Reads as node-at-reads
+use Rattle.table.proofs.decode.operation_of.Reads as operation-of-reads
 use Rattle.table.proofs.decode.shape_at.Reads as shape-at-reads
 use Rattle.analysis.proofs.evaluate.+branch+choose+choose_by+choose_split+cut_branch+cuts_on+split+split_apart+split_by+split_in_turn+split_joined+split_turned+value.{
   statement,
@@ -242,7 +246,19 @@ abbrev split-turned-calls : ℕ → split-turned-lts.Claims
 split-turned-calls t = (split-in-turn-below t, split-in-turn.Post)
 
 abbrev value-calls : ℕ → value-lts.Claims
-value-calls t = (shape-at-reads.Asked, shape-at-reads.Learnt, max32-reads.Asked, max32-reads.Learnt, range-in-reads.Asked, range-in-reads.Learnt, value-below t, value.Post, negate-reads.Asked, negate-reads.Learnt, mark-told-reads.Asked, mark-told-reads.Learnt, operate-reads.Asked, operate-reads.Learnt, choose-below t, choose.Post)
+value-calls t = (node-at-reads.Asked, node-at-reads.Learnt, max32-reads.Asked, max32-reads.Learnt, range-in-reads.Asked, range-in-reads.Learnt, value-below t, value.Post, negate-reads.Asked, negate-reads.Learnt, mark-told-reads.Asked, mark-told-reads.Learnt, choose-below t, choose.Post, operation-of-reads.Asked, operation-of-reads.Learnt, operate-reads.Asked, operate-reads.Learnt)
+
+-- the kind in the arm of an operation, and its operands
+operates : (t : ℕ) (c : value-lts.At-match-came (value-calls t) (value-at t) value.Post) → Operates (c .before .node-at .result .kind)
+operates t c = ⊎-elim (λ w. omega arith) (λ w. omega arith) (c .match .came)
+
+operands :
+    (t : ℕ) (c : value-lts.Then4 (value-calls t) (value-at t) value.Post) →
+    let read = c .before .before .before .before in
+    let node = read .node-at .result in
+    let n = read .before .before .args .n in
+    (node .a < n) × (node .b < n)
+operands t c = both-below _ _ _ (c .if4 .taken)
 
 pub +branch+choose+choose-by+choose-split+cut-branch+cuts-on+split+split-apart+split-by+split-in-turn+split-joined+split-turned+value-spec :
     {M : Type 1} → statement M
@@ -519,55 +535,56 @@ unfolding arithBy
     (λ c. turned _ _ _ _ _ _ _ (c .before .before .split-in-turn2 .ensures .1)))
     (λ t. value-lts.spec (value-calls t) (value-at t) value.Post
     (λ c κs. search needs)
-    (λ c. search needs)
-    (λ c. search needs)
-    (λ c κs. search needs)
-    (λ c. search needs)
-    (λ c κs. search needs)
-    (λ c. search needs)
-    (λ c κs. let arm = c .before .before in let below = children-of _ _ (sym (arm .before .before .shape-at .ensures) ∙ arm .s4 .given .1) in omega arith)
     (λ c κs. search needs)
     (λ c κs. search needs)
-    (λ c. search needs)
-    (λ c κs. let arm = c .before .before in let below = children-of _ _ (sym (arm .before .before .shape-at .ensures) ∙ arm .s5 .given .1) in omega arith)
-    (λ c κs. let arm = c .before .before .before .before .before .before in let below = children-of _ _ (sym (arm .before .before .shape-at .ensures) ∙ arm .s5 .given .1) in omega arith)
+    (λ c κs. omega arith)
     (λ c κs. search needs)
     (λ c κs. search needs)
-    (λ c. search needs)
-    (λ c κs. let arm = c .before .before in let below = children-of _ _ (sym (arm .before .before .shape-at .ensures) ∙ arm .s6 .given .1) in omega arith)
-    (λ c. search needs)
-    (λ c. search needs)
-    (λ c. search needs)
-    (λ c. search needs)
-    (λ c. search needs)
-    (λ c. let arm = c .before in constant-valued _ _ _ _ (sym (arm .before .before .shape-at .ensures) ∙ arm .s .given .1) (read-back (c .known-told .given .0 .1)))
+    (λ c κs.
+    let test = c .before in
+    let node = test .before .before .before .before .before .node-at .result in
+    let below = all-below _ (node .a) (node .b) (node .c) (test .if2 .taken) in
+    omega arith)
+    (λ c κs. let below = operands t (c .before) in omega arith)
+    (λ c κs. let below = operands t (c .before .before .before .before .before) in omega arith)
+    (λ c κs. search needs)
+    (λ c κs. search needs)
+    (λ c κs. search needs)
+    (λ c. let arm = c .before in constant-valued _ _ _ _ (arm .before .node-at .ensures .1 ∙ constant-shape _ _ _ _ _ _ (arm .match .keys1)) (read-back (c .struct-told .given .1 .0 .1)))
     (λ c.
-    let ends = c .before .known-told2 .given in
-    let arm = c .before .before in
-    input-valued _ _ _ _ (sym (arm .before .before .shape-at .ensures) ∙ arm .s2 .given .1) (read-back (ends .0 .1)) (read-back (ends .1 .0 .1)) (handed32 (c .max32 .ensures) (c .max32 .ok)))
-    (λ c. let arm = c .before .before .before in variable-valued _ _ _ _ (sym (arm .before .before .shape-at .ensures) ∙ arm .s3 .given .1) (c .range-in .ensures))
+    let ends = c .struct-told4 .given .1 in
+    let top = c .before in
+    let arm = top .before .before .before in
+    input-valued _ _ _ _ (arm .before .node-at .ensures .1 ∙ input-shape _ _ _ _ _ _ (arm .match .keys2)) (read-back (ends .0 .1)) (read-back (ends .1 .0 .1)) (handed32 (top .max32 .ensures) (top .max32 .ok)))
+    (λ c. let arm = c .before .before in variable-valued _ _ _ _ (arm .before .node-at .ensures .1 ∙ variable-shape _ _ _ _ _ _ (arm .match .keys3)) (c .range-in .ensures))
     (λ c. search needs)
     (λ c.
     let told = c .before .before in
     let negated = told .before in
     let valued = negated .before .before .before .before in
-    let arm = valued .before .before .before in
-    negation-valued _ _ _ _ (sym (arm .before .before .shape-at .ensures) ∙ arm .s4 .given .1) (valued .value .ensures) (negated .negate .ensures) (told .mark-told .ensures))
+    let test = valued .before .before in
+    let arm = test .before .before in
+    negation-valued _ _ _ _ (arm .before .node-at .ensures .1 ∙ negation-below _ _ _ _ _ _ (arm .match .keys4) (test .if1 .taken)) (valued .value .ensures) (negated .negate .ensures) (told .mark-told .ensures))
+    (λ c. let arm = c .before .before in no-value _ _ _ _ (arm .before .node-at .ensures .1 ∙ negation-bad _ _ _ _ _ _ (arm .match .keys4) (c .if1 .left)) refl)
+    (λ c. search needs)
+    (λ c.
+    let chose = c .before .before in
+    let test = chose .before .before in
+    let arm = test .before .before .before .before in
+    choice-valued _ _ _ _ (arm .before .node-at .ensures .1 ∙ choice-below _ _ _ _ _ _ (arm .match .keys6) (test .if2 .taken)) (chose .choose .ensures))
+    (λ c. let arm = c .before .before .before .before in no-value _ _ _ _ (arm .before .node-at .ensures .1 ∙ choice-bad _ _ _ _ _ _ (arm .match .keys6) (c .if2 .left)) refl)
+    (λ c.
+    let arm = c .before in
+    let ((((((none, constant), input), variable), negation), remainder), choice) = arm .match .rest in
+    no-value _ _ _ _ (arm .before .node-at .ensures .1) (no-arith _ _ _ _ _ _ _ _ _ constant variable (leaf-high (c .if3 .left) choice remainder)))
     (λ c. search needs)
     (λ c.
     let told = c .before .before in
     let operated = told .before in
-    let right = operated .before .before .before .before in
+    let op = operated .before in
+    let right = op .before .before .before .before in
     let left = right .before .before .before .before in
-    let arm = left .before .before .before in
-    binary-valued _ _ _ _ (sym (arm .before .before .shape-at .ensures) ∙ arm .s5 .given .1) (left .value2 .ensures) (right .value3 .ensures) (operated .operate .ensures) (told .mark-told2 .ensures))
-    (λ c. search needs)
-    (λ c.
-    let chose = c .before .before in
-    let arm = chose .before .before .before in
-    choice-valued _ _ _ _ (sym (arm .before .before .shape-at .ensures) ∙ arm .s6 .given .1) (chose .choose .ensures))
-    (λ c. no-value _ _ _ _ (sym (c .before .before .shape-at .ensures) ∙ c .enum-told .given .1) refl)
-    (λ c. no-value _ _ _ _ (sym (c .before .before .shape-at .ensures) ∙ c .enum-told2 .given .1) refl)
-    (λ c. no-value _ _ _ _ (sym (c .before .before .shape-at .ensures) ∙ c .enum-told3 .given .1) refl)
-    (λ c. no-value _ _ _ _ (sym (c .before .before .shape-at .ensures) ∙ c .enum-told4 .given .1) refl)
-    (λ c. no-value _ _ _ _ (sym (c .before .before .shape-at .ensures) ∙ c .enum-told5 .given .1) refl))
+    let test = left .before .before in
+    let arm = test .before .before .before in
+    binary-valued _ _ _ _ (arm .before .node-at .ensures .1 ∙ operation-below _ _ _ _ _ _ (op .operation-of .ensures) (operates t arm) (test .if4 .taken)) (left .value2 .ensures) (right .value3 .ensures) (operated .operate .ensures) (told .mark-told2 .ensures))
+    (λ c. let arm = c .before .before .before in no-value _ _ _ _ (arm .before .node-at .ensures .1 ∙ operation-bad _ _ _ _ _ _ (operates t arm) (c .if4 .left)) refl))

@@ -19,10 +19,10 @@ use Rattle.table.specs.declared.Shape.the-variants.{Binary, Choice, Compare}
 use Rattle.table.specs.Decode.{pick, shapeBy, shapeOf}
 use Rattle.table.proofs.DecodeLaws.{number-back, kept-yes, kept-no}
 use Rattle.table.proofs.TreeLaws.{children-of}
-use Rattle.run.specs.Codes.{Leaf, kindOperation, kindComparison}
+use Rattle.table.specs.Decode.{Leaf, kindOperation, kindComparison}
 use Rattle.run.proofs.CodeLaws.{error-of, value-of, truth-taken, failure-of, handed-code, handed-value, handed-truth}
-use Rattle.run.proofs.KindLaws.{node-shape, input-shape, negation-shape, choice-shape, not-shape, Operates, operation-shape}
-use Rattle.run.proofs.KindLaws.{pick-below, leaf-low, leaf-high, comparison-shape, pairShape, pair-children, pair-shape, no-cond}
+use Rattle.table.proofs.KindLaws.{node-shape, input-shape, negation-shape, choice-shape, not-shape, Operates, operation-shape}
+use Rattle.table.proofs.KindLaws.{pick-below, leaf-low, leaf-high, comparison-shape, pairShape, pair-children, pair-shape, no-cond}
 use Rattle.run.proofs.EvaluationLaws.{input-valued, negation-valued, binary-valued, binary-ended, choice-valued, choice-ended, bad-value}
 use Rattle.run.proofs.EvaluationLaws.{compare-told, compare-ended, pair-told, pair-ended, not-told, no-truth, bad-truth}
 use Rattle.run.proofs.evaluate.operand.Reads as operand
@@ -34,7 +34,7 @@ use Rattle.run.proofs.evaluate.+operand+value+verity.Lts-value as value
 use Rattle.run.proofs.evaluate.verity.Reads as verity
 use Rattle.run.proofs.evaluate.verity.Kinds as verity-kinds
 use Rattle.run.proofs.evaluate.+operand+value+verity.Lts-verity as verity-lts
-use Rattle.run.proofs.evaluate.both_below.Reads as both-below-reads
+use Rattle.table.proofs.decode.both_below.Reads as both-below-reads
 use Rattle.run.proofs.evaluate.compared.Reads as compared-reads
 use Rattle.run.proofs.evaluate.input.Reads as input-reads
 use Rattle.run.proofs.evaluate.is_error.Reads as is-error-reads

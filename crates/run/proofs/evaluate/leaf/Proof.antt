@@ -10,7 +10,7 @@ use Rattle.words.specs.Words.{numberAt}
 use Rattle.table.specs.Decode.{shapeBy}
 use Rattle.table.proofs.DecodeLaws.{number-back}
 use Rattle.run.proofs.CodeLaws.{word-given, truth-code}
-use Rattle.run.proofs.KindLaws.{node-shape, no-arith}
+use Rattle.table.proofs.KindLaws.{node-shape, no-arith}
 use Rattle.run.proofs.EvaluationLaws.{constant-valued, variable-valued, no-value}
 use Rattle.run.proofs.evaluate.leaf.Statement.{statement}
 use Rattle.run.proofs.evaluate.leaf.Tie as tie

@@ -15,7 +15,8 @@ use Rattle.interval.specs.declared.Operation.the-variants.{Sum, Difference, Pro
 use Rattle.interval.proofs.Machine.{ok64}
 use Rattle.interval.proofs.MachineArithmetic.{word, long, handed64}
 use Rattle.table.specs.Meaning.{perform, performBy}
-use Rattle.run.specs.Codes.{Code, evaluationOf, kindOperation}
+use Rattle.table.specs.Decode.{kindOperation}
+use Rattle.run.specs.Codes.{Code, evaluationOf}
 use Rattle.run.proofs.evaluate.perform.Statement.{statement}
 use Rattle.run.proofs.evaluate.perform.Tie as tie
 

@@ -2,7 +2,7 @@
 -- Assumes nothing.
 use borrow.Author.Needs.{needs}
 use borrow.Author.Tests.{ne-eqb}
-use Rattle.run.specs.Codes.{kindComparison}
+use Rattle.table.specs.Decode.{kindComparison}
 use Rattle.run.proofs.evaluate.test.Statement.{statement}
 use Rattle.run.proofs.evaluate.test.Tie as tie
 
