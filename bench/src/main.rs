@@ -1,7 +1,8 @@
 //! Times the proved check and run against the independent implementation, in
-//! one process and on the same inputs, the whole program against `cat`, and the
-//! check of deep formulas: `bench [RANGECHECK]`.
+//! one process and on the same inputs, the whole program against `cat`, and how
+//! checks grow with their sizes and with deep formulas: `bench [RANGECHECK]`.
 
+mod growth;
 mod inputs;
 mod nests;
 mod program;
@@ -44,8 +45,8 @@ fn main() {
     println!();
 
     head("peer");
-    for check in nests::checks() {
-        line(&check.name, words(&check.pairs), &time_check(&check));
+    for check in growth::checks().iter().chain(&nests::checks()) {
+        line(&check.name, words(&check.pairs), &time_check(check));
     }
 }
 
