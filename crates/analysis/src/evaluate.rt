@@ -47,7 +47,8 @@ ghost use Rattle.analysis.specs.Analysis.{valueOf, alarmsOf, decisionOf,
 ghost use Rattle.analysis.specs.Cuts.{cutRowOf};
 ghost use Rattle.analysis.specs.Arrays.{rowIn, leftOf, splitOf, pairOf, combinedOf, CopyIf, KnownIf};
 
-// The interval of the arithmetic node n on a row in an array.
+// The interval of the arithmetic node n on a row in an array; 0 where it is no arithmetic, or has a child that is not below it. The kind's number is matched,
+// here and in `value_on`: a shape would be put into memory only to be told apart again.
 pub fn value<'a, 'b, 'c>(nodes: &'a [i32], n: usize, row: &'b Row, marks: &'c mut [u8]) -> Interval
     ensures { λ r. ⌜ r ≡ valueOf (arithAt (now (nodes .entry)) n) (rowIn (now (row .entry))) ⌝ }
     ensures { λ r. ⌜ now (marks .exit) ≡ markedOf (now (marks .entry)) (alarmsOf (arithAt (now (nodes .entry)) n) (rowIn (now (row .entry)))) ⌝ }
