@@ -1,4 +1,5 @@
-// The state that a run starts from, and the one that a refusal gives.
+// The state that a run starts from, and the one that a refusal gives. Points and values are filled in loops of fixed length, free slots in loops that end
+// at the sizes: a step's copies of the state are then made slot by slot and needn't wait for one that was just written.
 use crate::State;
 use table::layout::first_of;
 use table::layout::sizes;
