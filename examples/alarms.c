@@ -3,7 +3,7 @@
        cc -Iinclude examples/alarms.c target/staticlib/librangecheck_c.a -o target/alarms && target/alarms examples/nested.bin
 
    One line for each: the node and what can go wrong there. The status is 0 if the proposal is accepted, 1 if it is refused, and 2 if the file can't
-   be read. */
+   be read or the list can't be written. */
 #include "rangecheck.h"
 #include <stdio.h>
 #include <stdlib.h>
@@ -38,8 +38,8 @@ static int print_alarms(const int32_t *table, int32_t table_len, const int32_t *
         return 1;
     }
     for (size_t k = 0; k < a.count; k++)
-        printf("node %ld: %s\n", (long)alarms[2 * k], alarms[2 * k + 1] == RANGECHECK_ZERO ? "division by zero" : "overflow");
-    return 0;
+        printf("node %ld %s\n", (long)alarms[2 * k], alarms[2 * k + 1] == RANGECHECK_ZERO ? "zero" : "overflow");
+    return fflush(stdout) == 0 && !ferror(stdout) ? 0 : 2;
 }
 
 int main(int argc, char **argv) {

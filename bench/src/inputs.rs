@@ -39,10 +39,11 @@ pub struct Run {
 
 /// The tower's table and proposal.
 pub fn tower(root: &Path) -> Pair {
-    let output = Command::new(root.join("tools/encode"))
+    let output = Command::new(root.join("tools/tower"))
+        .arg("encode")
         .arg(root.join("examples/tower/tower.txt"))
         .output()
-        .expect("tools/encode starts");
+        .expect("tools/tower starts");
     assert!(output.status.success(), "{}", String::from_utf8_lossy(&output.stderr));
     let word = |bytes: &[u8; 4]| i32::from_le_bytes(*bytes);
     let words: Vec<i32> = output.stdout.as_chunks().0.iter().map(word).collect();

@@ -1,4 +1,4 @@
-//! The tower of `examples/`, from the words that `tools/encode` writes: its
+//! The tower of `examples/`, from the words that `tools/tower encode` writes: its
 //! verdicts and its runs, that no range of it can be narrower, that the fault of
 //! `wrong.txt` is the one that is told, and that the alarm of `ring.txt` has no
 //! cause.
@@ -59,9 +59,9 @@ struct Given {
 fn encoded(options: &[&str], name: &str) -> Given {
     let root = concat!(env!("CARGO_MANIFEST_DIR"), "/../..");
     let text = format!("{root}/examples/tower/{name}");
-    let ran = Command::new(format!("{root}/tools/encode")).args(options).arg(text).output();
-    let ran = ran.unwrap_or_else(|error| panic!("tools/encode: {error}"));
-    assert!(ran.status.success(), "tools/encode: {}", String::from_utf8_lossy(&ran.stderr));
+    let ran = Command::new(format!("{root}/tools/tower")).arg("encode").args(options).arg(text).output();
+    let ran = ran.unwrap_or_else(|error| panic!("tools/tower: {error}"));
+    assert!(ran.status.success(), "tools/tower: {}", String::from_utf8_lossy(&ran.stderr));
     let words: Vec<i32> =
         ran.stdout.as_chunks().0.iter().map(|word| i32::from_le_bytes(*word)).collect();
     let (table, other) = words[2..].split_at(words[0] as usize);

@@ -1,12 +1,10 @@
-"""A table and a proposal in their parts, written out for people, and the answer of the checker. Whether a proposal holds is not decided here: that
-is the checker's answer, and nothing below evaluates a formula."""
-import os, subprocess
-from notation import MAX, MIN, fail, to_bytes
+"""A table and a proposal in their parts, written out for people. Whether a proposal holds is not decided here: that is the checker's answer, and
+nothing below evaluates a formula."""
+import unicodedata
+from .notation import MAX, MIN
 
-ROOT = os.path.dirname(os.path.dirname(os.path.abspath(__file__)))
 SIZES = ("tasks", "variables", "mutexes", "points", "nodes")
 LIMITS = ((1, 8), (1, 16), (0, 8), (1, 256), (0, 1024))
-TRADE = "length size share node point use reach match range order start locks flow write disturb rest room".split()
 POINTS = {0: "end", 1: "assign", 2: "test", 3: "lock", 4: "unlock"}
 BINARY = {4: ("+", 5), 5: ("-", 5), 6: ("*", 6), 7: ("/", 6), 9: ("%", 6), 16: ("<", 4), 17: ("<=", 4), 18: ("=", 4), 19: ("!=", 4), 20: ("and", 2), 21: ("or", 2)}
 CHILDREN = {3: 1, 8: 3, 22: 1, **{kind: 2 for kind in BINARY}}
@@ -34,7 +32,7 @@ class Table:
         t = given.table
         self.name = given.name
         self.tasks, self.variables, self.mutexes, points, nodes = t[:5]
-        base = 5 + self.tasks + self.variables
+        self.base = base = 5 + self.tasks + self.variables
         self.shares, self.starts = t[5 : 5 + self.tasks], t[5 + self.tasks : base]
         fours = [t[i : i + 4] for i in range(base, len(t), 4)]
         self.points, self.nodes = fours[:points], fours[points:]
@@ -53,6 +51,14 @@ class Table:
         self.formulas = []  # with how tightly each is bound; a child's number is below its parent's
         for n in range(nodes):
             self.formulas.append(self.written(n))
+
+    # ---- where words stand
+    def point_word(self, p):
+        """The table's word at which a point begins."""
+        return self.base + 4 * p
+
+    def node_word(self, n):
+        return self.base + 4 * (len(self.points) + n)
 
     @staticmethod
     def roots(point):
@@ -149,10 +155,23 @@ class Proposal:
         rows = [self.ends[k * table.variables : (k + 1) * table.variables] for k in range(points + table.mutexes)]
         self.rows, self.rests, self.ranges = rows[:points], rows[points:], self.ends[count - w[3] :]
 
+    def head_word(self, i):
+        """The proposal's word at which an entry's head begins."""
+        return 4 + len(self.held) + 3 * i
+
+    def low_word(self, k, v):
+        """The proposal's word with the low end of a variable in a row, those of mutexes after those of points."""
+        return self.lows + k * len(self.rows[0]) + v
+
 
 def counted(count, name):
     """`1 mutex`, `2 mutexes`."""
     return "%d %s" % (count, name if count != 1 else {"mutexes": "mutex", "entries": "entry"}.get(name, name[:-1]))
+
+
+def wide(text):
+    """How many columns a text takes: letters of some scripts take two, their marks none."""
+    return sum(0 if unicodedata.combining(c) else 2 if unicodedata.east_asian_width(c) in "WF" else 1 for c in text)
 
 
 def end(z):
@@ -178,40 +197,3 @@ def proposal_of(table, given):
     if table is None or w[:3] != [len(table.points), table.variables, table.mutexes] or not 0 <= (w + [-1])[3] <= 512:
         return None
     return Proposal(table, w) if len(w) == proposal_length(w[:4]) else None
-
-
-# ---- the programs
-def program(name, option):
-    """The path of a built program, or what the option says."""
-    path = os.path.join(ROOT, "target", "bin", name)
-    if not option and not os.path.exists(path):
-        fail("there is no program %s; `rt check %s` builds it" % (path, name))
-    return option or path
-
-
-def printed(path, first, second):
-    try:
-        ran = subprocess.run([path], input=to_bytes(first, second), stdout=subprocess.PIPE, check=True)
-    except (OSError, subprocess.CalledProcessError) as problem:
-        fail("the program didn't answer: %s" % problem)
-    return ran.stdout.decode().splitlines()
-
-
-class Answer:
-    """What the checker prints: the first line, and either the alarms, each a node with its kind's word, or a refusal's number and place."""
-
-    def __init__(self, given, path):
-        lines = printed(path, given.table, given.proposal) or [""]
-        self.line, words = lines[0], lines[0].split()
-        self.accepted, self.alarms, self.number, self.place = words[:1] == ["accepted"], [], 0, 0
-        if self.accepted:
-            self.alarms = [(int(line.split()[1]), line.split()[2]) for line in lines[1:]]
-        elif words[:1] == ["refused"]:
-            self.number, self.place = int(words[1]), int(words[4])
-        elif words != ["unread"]:
-            fail("this is no answer of rangecheck: %r" % self.line)
-
-    def point(self, table):
-        """The point that a refusal speaks of, or None."""
-        count = len(table.points)
-        return self.place if self.number in (5, 11, 12, 13, 14, 15, 16) and self.place < count else None
