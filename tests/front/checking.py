@@ -125,6 +125,7 @@ def case_checked(t, w, answer, text):
         said = [prefix(at) + answer[0]] + ["  " + line for line in whole["told"]]
         expect("a refusal is told, %s" % case, whole["told"] != [] and told["alarms"] == [], True)
         expect("show's first lines, %s" % case, got[: len(said) + 1], ([answer[0]] + said[1:] + [""])[: len(got)])
+        expect("where show says it stands, %s" % case, tower("show", given=text.encode())[1], said[0] + "\n")
         tried("refusals with their places")
     else:
         alarms = alarms_checked(t, answer, text, told, case)
@@ -230,6 +231,6 @@ def running():
     expect("runs of every sort", [sort for sort, count in seen.items() if count < 5], [])
     expect("a run without a word", lines("run", given=b"table 1 1 0 1 0 1 7 0 0 0 0 schedule"), ["after the schedule's 0 words", "  task 0 stands at 0: end", "  v0 7"])
     got = tower("run", given=b"table 9 1 0 1 0 1 7 0 0 0 0 schedule 0")
-    expect("a run of a refused table", got, (b"refused 2 size at 0\n  word 0 of the table, the number of tasks, is 9; it must lie in 1..8\n", "", 1))
+    expect("a run of a refused table", got, (b"refused 2 size at 0\n  word 0 of the table, the number of tasks, is 9; it must lie in 1..8\n", "<stdin>:1:7: refused 2 size at 0\n", 1))
     many = "table 1 1 0 1 0 1 7 0 0 0 0 schedule" + " 0" * 20000
     expect("a run by many words", lines("run", given=many.encode())[0], "after the schedule's 20000 words")

@@ -1,5 +1,5 @@
 """The command in this process and in one of its own, cases with their answers, and a table and a proposal in their parts, read here once more."""
-import contextlib, json, os, struct, subprocess, sys, tempfile, traceback
+import contextlib, json, os, re, struct, subprocess, sys, tempfile, traceback
 from importlib.machinery import SourceFileLoader
 from types import ModuleType
 
@@ -76,10 +76,12 @@ def started(*options, given=b"", path=None, first=None, command=(COMMAND,), **st
 
 
 def lines(*options, given=b"", status=0):
-    """What it prints where it works and says nothing."""
+    """What it prints where it works; it says nothing then, but for where a refusal stands."""
     out, error, ended = tower(*options, given=given)
-    expect("%s works" % (options,), (error, ended), ("", status))
-    return out.decode().splitlines()
+    printed_lines = out.decode().splitlines()
+    said = re.sub(r"^\S+:\d+:\d+: ", "", error)
+    expect("%s works" % (options,), (said, ended), (printed_lines[0] + "\n" if status == 1 else "", status))
+    return printed_lines
 
 
 def json_of(*options, given=b"", status=0):

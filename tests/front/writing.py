@@ -54,8 +54,9 @@ def replacing():
             refused = ("run", *options[1:]) if options[0] == "run" else options
             source = path("refused.txt" if options[0] == "run" else "wrong.txt")
             if options[0] in ("check", "show", "run", "picture"):
-                expect("%s -o, refused" % (options,), tower(*refused, "-o", path("old.txt"), source), (b"", "", 1))
-                want = b"old\n" if options[0] == "check" else tower(*refused, source)[0]
+                shown, said, _ = tower(*refused, source)
+                expect("%s -o, refused" % (options,), tower(*refused, "-o", path("old.txt"), source), (b"", said, 1))
+                want = b"old\n" if options[0] == "check" else shown
                 expect("what is there after %s, refused" % (options,), (contents(path("old.txt")), sorted(os.listdir(folder))), (want, there))
             put(path("old.txt"), "old\n")
             tried("outputs", 9)
