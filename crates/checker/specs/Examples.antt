@@ -34,7 +34,7 @@ use Rattle.checker.specs.declared.Verdict.{Verdict}
 use Rattle.checker.specs.declared.Verdict.the-variants.{Accepted, Refused}
 use Rattle.rules.specs.Proposal.{entriesOf, intervalsOf, headsFrom, lowsFrom, proposalLength, heldWordOf, heldOf, headsOf, headOf, lowsOf, highsOf}
 use Rattle.rules.specs.Proposal.{rowAt, entriesAt, entryLow, entryHigh}
-use Rattle.rules.specs.Outcomes.{rowWithinOf, assigned, writtenOf, outcomeIf, outcomesBy, outcomesOf}
+use Rattle.rules.specs.Outcomes.{rowWithinOf, assigned, writtenOf, outcomeIf, outcomesWith, outcomesBy, outcomesOf}
 use Rattle.rules.specs.Rules.{allOutcomes, rule8, heldInRange, headInRange, rule9, beforeOf, rule10, holdsStart, startPoint, rule11, locksFit, rowsFit, rule12, rule13}
 use Rattle.rules.specs.Rules.{files, filed, writes, rule14, takes, disturbs, undisturbed, rule15, rests, restPoint, restEntry, rule16}
 use Rattle.rules.specs.Alarms.{alarmsBy, alarmsIf, alarmsAt}
@@ -157,7 +157,7 @@ unfolding table minZ maxZ min4Z max4Z eqZ onEnds withinOf meetOf joinOf hullOf b
     nodeFieldsOf pointFieldsOf fitsOf refOf refsBelow countOf usesOf sizesStage partsStage
     tabulate slotsOf rowIf thenRow putOf meetAtOf alarmIf toldOf lists rangeOn alarmsOn carryOf carryBothOf valueOf
     entriesOf intervalsOf headsFrom lowsFrom proposalLength heldWordOf heldOf headsOf headOf lowsOf highsOf rowAt entriesAt entryLow entryHigh
-    rowWithinOf assigned writtenOf outcomeIf outcomesBy outcomesOf
+    rowWithinOf assigned writtenOf outcomeIf outcomesWith outcomesBy outcomesOf
     allOutcomes rule8 heldInRange headInRange rule9 beforeOf rule10 holdsStart startPoint rule11 locksFit rowsFit rule12 rule13
     files filed writes rule14 takes disturbs undisturbed rule15 rests restPoint restEntry rule16
     alarmsBy alarmsIf alarmsAt firstBadIn layoutStage wordsStage startStage outcomeStage sharedStage readyOf examinedOf

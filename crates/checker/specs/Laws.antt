@@ -50,6 +50,8 @@ risingFrom m j (a ∷ (b ∷ l)) = (ltb m (numberOf a) || (eqb m (numberOf a) &&
 
 pub record Laws : Type 0 where
   pub accepted : (t w : List ℤ) (room count : ℕ) → checkOf t w room ≡ Accepted count → Accepts t w room count
+  -- and back: all rules, and room for the list, are enough
+  pub accepts-back : (t w : List ℤ) (room count : ℕ) → Accepts t w room count → checkOf t w room ≡ Accepted count
   -- a 17 has the true number of words as its place, and the buffer is shorter
   pub room-needed : (t w : List ℤ) (room place : ℕ) → checkOf t w room ≡ Refused 17 place → (place ≡ length (alarmWords t w)) × (room < place)
   -- a pair is on the list exactly when some reached point's evaluation calls it possible

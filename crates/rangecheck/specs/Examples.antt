@@ -20,7 +20,7 @@ use Rattle.analysis.specs.Alarms.{alarmIf, toldOf, lists}
 use Rattle.analysis.specs.Analysis.{rangeOn, alarmsOn, carryOf, carryBothOf, valueOf}
 use Rattle.rules.specs.Proposal.{entriesOf, intervalsOf, headsFrom, lowsFrom, proposalLength, heldWordOf, heldOf, headsOf, headOf, lowsOf, highsOf}
 use Rattle.rules.specs.Proposal.{rowAt, entriesAt, entryLow, entryHigh}
-use Rattle.rules.specs.Outcomes.{rowWithinOf, assigned, writtenOf, outcomeIf, outcomesBy, outcomesOf}
+use Rattle.rules.specs.Outcomes.{rowWithinOf, assigned, writtenOf, outcomeIf, outcomesWith, outcomesBy, outcomesOf}
 use Rattle.rules.specs.Rules.{allOutcomes, rule8, heldInRange, headInRange, rule9, beforeOf, rule10, holdsStart, startPoint, rule11, locksFit, rowsFit, rule12, rule13}
 use Rattle.rules.specs.Rules.{files, filed, writes, rule14, takes, disturbs, undisturbed, rule15, rests, restPoint, restEntry, rule16}
 use Rattle.rules.specs.Alarms.{alarmsBy, alarmsIf, alarmsAt}
@@ -75,7 +75,7 @@ unfolding onEnds withinOf numberOf unless orElse firstBad allBelow someBelow ref
     firstIn laterOf lastIn firstOf taskOf shapeBy shapeFrom pointBy pointFrom arithBy arithF arithAt nodeFieldsOf pointFieldsOf fitsOf refOf
     refsBelow countOf usesOf sizesStage partsStage rowIf thenRow putOf meetAtOf alarmIf toldOf lists rangeOn alarmsOn carryOf carryBothOf valueOf
     entriesOf intervalsOf headsFrom lowsFrom proposalLength heldWordOf heldOf headsOf headOf lowsOf highsOf rowAt entriesAt entryLow entryHigh
-    rowWithinOf assigned writtenOf outcomeIf outcomesBy outcomesOf allOutcomes rule8 heldInRange headInRange rule9 beforeOf rule10 holdsStart
+    rowWithinOf assigned writtenOf outcomeIf outcomesWith outcomesBy outcomesOf allOutcomes rule8 heldInRange headInRange rule9 beforeOf rule10 holdsStart
     startPoint rule11 locksFit rowsFit rule12 rule13 files filed writes rule14 takes disturbs undisturbed rule15 rests restPoint restEntry rule16
     alarmsBy alarmsIf alarmsAt firstBadIn layoutStage wordsStage startStage outcomeStage sharedStage readyOf examinedOf raised pairIf pairsAt
     pairsOf alarmWords roomStage stagesOf verdictBy checkOf tabulate signedBy signedOf lastOr digitsIn pick linesOf acceptedText textOf printedOf

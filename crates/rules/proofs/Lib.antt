@@ -1,4 +1,5 @@
 pub mod HeldLaws
+pub mod SetLaws
 pub mod ProposalLaws
 pub mod RowLaws
 pub mod OrderedLaws

@@ -39,7 +39,7 @@ use Rattle.analysis.proofs.RowCodeLaws.{left-again}
 use Rattle.rules.specs.declared.Fits.{Fits}
 use Rattle.rules.specs.Held.{hasOf, withOf, withoutOf}
 use Rattle.rules.specs.Proposal.{heldOf, rowAt, restAt}
-use Rattle.rules.specs.Outcomes.{Outcome, rowWithinOf, meetRowsOf, assigned, writtenOf, outcomeIf, onlyIf, outcomesBy, outcomesOf}
+use Rattle.rules.specs.Outcomes.{Outcome, rowWithinOf, meetRowsOf, assigned, writtenOf, outcomeIf, onlyIf, outcomesWith, outcomesBy, outcomesOf}
 use Rattle.rules.specs.Rules.{allOutcomes, locksFit, rowsFit, filed, writes, rule12, rule13, rule14}
 use Rattle.rules.specs.Alarms.{alarmsBy, alarmsIf, alarmsAt}
 use Rattle.rules.specs.Points.{sideOf, testedOf, fitsBy, fitsAt}
@@ -180,13 +180,13 @@ module _ (t w : List ℤ) where
 
     -- ---- an end
     pub end-fits : {y : Fits} → y ≡ allFit → y ≡ fitsBy t w End p s r
-    unfolding outcomesBy writes
+    unfolding outcomesWith outcomesBy writes
     end-fits e = no-outcome End refl refl e
 
     -- ---- an assignment
     pub assign-none : (v e q : ℕ) {nodes : List ℤ} {i : Interval} {y : Fits} → nodes ≡ nodesOf t → i ≡ valueOf (arithAt nodes e) (ownOf r) → i ≡ None
         → y ≡ allFit → y ≡ fitsBy t w (Assign v e q) p s r
-    unfolding outcomesBy writtenOf assigned outcomeIf writes filed
+    unfolding outcomesWith outcomesBy writtenOf assigned outcomeIf writes filed
     assign-none v e q f g h k = no-outcome (Assign v e q) (rw (← f, ← g, h)) (rw (← f, ← g, h)) k
 
     -- lo and hi are the ends of what is written, lo′ and hi′ the same as the code hands them on
@@ -195,7 +195,7 @@ module _ (t w : List ℤ) where
         → h ≡ heldOf w q → RowRead q n lows highs
         → flow ≡ rowWithinOf n (writtenRow (r .lows) (r .highs) v lo′ hi′ 16 (pos 0) (pos 0)) (rowOf lows highs) → u ≡ taskOf t p
         → write ≡ filed t w u s v (Between lo′ hi′) → fits (eqb h s) flow write ≡ fitsBy t w (Assign v e q) p s r
-    unfolding fitsBy outcomesBy writtenOf assigned writes
+    unfolding fitsBy outcomesWith outcomesBy writtenOf assigned writes
     assign-some v e q {lo = lo} {hi = hi} whole f g x a b d y j k z =
         let low = written-once (r .lows) v 16 lo (pos 0) (omega (arith, whole .variables, whole .low)) in
         let high = written-once (r .highs) v 16 hi (pos 0) (omega (arith, whole .variables, whole .high)) in
@@ -204,7 +204,7 @@ module _ (t w : List ℤ) where
 
     -- ---- a test
     test-fits : (c y n : ℕ) {nodes : List ℤ} {o : Fits} → nodes ≡ nodesOf t → o ≡ testedOf t w (condAt nodes c) y n s r → o ≡ fitsBy t w (Test c y n) p s r
-    unfolding fitsBy outcomesBy writes
+    unfolding fitsBy outcomesWith outcomesBy writes
     test-fits c y n e f = rw e at f
 
     -- by the node b of the condition under the 'not' around c, which turn it if q
@@ -220,7 +220,7 @@ module _ (t w : List ℤ) where
 
     -- ---- a lock
     pub lock-held : (m q : ℕ) {y : Fits} → hasOf s m ≡ true → y ≡ allFit → y ≡ fitsBy t w (Lock m q) p s r
-    unfolding outcomesBy onlyIf writes
+    unfolding outcomesWith outcomesBy onlyIf writes
     lock-held m q e f = no-outcome (Lock m q) (rw e) refl f
 
     -- the interval of v in both rows isn't empty
@@ -234,26 +234,26 @@ module _ (t w : List ℤ) where
     pub lock-apart : (m q : ℕ) {n : ℕ} {lows highs : List ℤ} {b : Bool} {y : Fits} → hasOf s m ≡ false
         → RowRead (sizesOf t .points + m) n lows highs → b ≡ allBelow (meetsAt (rowOf lows highs)) n → not b ≡ true → y ≡ allFit
         → y ≡ fitsBy t w (Lock m q) p s r
-    unfolding outcomesBy onlyIf meetRowsOf rowIf outcomeIf writes
+    unfolding outcomesWith outcomesBy onlyIf meetRowsOf rowIf outcomeIf writes
     lock-apart m q e x f g h = no-outcome (Lock m q) (rw (e, fails-not (rest-meets m x f) g)) refl h
 
     pub lock-met : (m q : ℕ) {n h v : ℕ} {a b lows highs : List ℤ} {z flow : Bool} → hasOf s m ≡ false → RowRead (sizesOf t .points + m) n a b
         → z ≡ allBelow (meetsAt (rowOf a b)) n → not z ≡ false → v ≡ withOf s m → h ≡ heldOf w q → RowRead q n lows highs
         → flow ≡ rowWithinOf n (rowOf (each maxZ (r .lows) a) (each minZ (r .highs) b)) (rowOf lows highs)
         → fits (eqb h v) flow true ≡ fitsBy t w (Lock m q) p s r
-    unfolding outcomesBy onlyIf meetRowsOf rowIf writes
+    unfolding outcomesWith outcomesBy onlyIf meetRowsOf rowIf writes
     lock-met m q e x f g i d y j =
         rw i
         (by-outcomes (Lock m q) _ (rw (e, holds-not (rest-meets m x f) g)) refl (one-side (withOf s m) q _ d y (rw (x .low, x .high) at j)))
 
     -- ---- an unlock
     pub unlock-free : (m q : ℕ) {y : Fits} → hasOf s m ≡ false → y ≡ allFit → y ≡ fitsBy t w (Unlock m q) p s r
-    unfolding outcomesBy onlyIf writes
+    unfolding outcomesWith outcomesBy onlyIf writes
     unlock-free m q e f = no-outcome (Unlock m q) (rw e) refl f
 
     pub unlock-held : (m q : ℕ) {h n v : ℕ} {lows highs : List ℤ} {flow : Bool} → hasOf s m ≡ true → v ≡ withoutOf s m → h ≡ heldOf w q
         → RowRead q n lows highs → flow ≡ rowWithinOf n r (rowOf lows highs) → fits (eqb h v) flow true ≡ fitsBy t w (Unlock m q) p s r
-    unfolding outcomesBy onlyIf writes
+    unfolding outcomesWith outcomesBy onlyIf writes
     unlock-held m q e i d y j = rw i (by-outcomes (Unlock m q) _ (rw e) refl (one-side (withoutOf s m) q r d y j))
 
   -- ---- a point: what stands there is looked at only if it is reached. m are the marks before, m′ those after

@@ -16,7 +16,7 @@ use Rattle.table.specs.Decode.{pointOf}
 use Rattle.table.specs.Passes.{Passes, FormedPoint}
 use Rattle.rules.specs.Held.{hasOf}
 use Rattle.rules.specs.Proposal.{entriesOf, heldOf, reachedOf, headOf, rowAt, restAt}
-use Rattle.rules.specs.Outcomes.{Outcome, rowWithinOf, outcomeIf, onlyIf, outcomesBy, outcomesOf}
+use Rattle.rules.specs.Outcomes.{Outcome, rowWithinOf, outcomeIf, onlyIf, outcomesWith, outcomesBy, outcomesOf}
 use Rattle.rules.specs.Rules.{implies, allOutcomes, takes, rests, restPoint, restEntry, rule16}
 use Rattle.rules.specs.Ready.{Parts}
 use Rattle.rules.proofs.DisturbLaws.{takes-is, head-at}
@@ -47,12 +47,12 @@ module _ (t w : List ℤ) (p : ℕ) where
   given m q = outcomesBy t w (Unlock m q) (heldOf w p) (rowAt t w p)
 
   pub not-held : (m q : ℕ) → hasOf (heldOf w p) m ≡ false → true ≡ rests t w (Unlock m q) (given m q)
-  unfolding rests outcomesBy onlyIf allOutcomes
+  unfolding rests outcomesWith outcomesBy onlyIf allOutcomes
   not-held m q e = rw e
 
   pub held : {b : Bool} (m q : ℕ) → hasOf (heldOf w p) m ≡ true → b ≡ rowWithinOf (sizesOf t .variables) (rowAt t w p) (restAt t w m)
       → b ≡ rests t w (Unlock m q) (given m q)
-  unfolding rests outcomesBy onlyIf outcomeIf allOutcomes
+  unfolding rests outcomesWith outcomesBy onlyIf outcomeIf allOutcomes
   held m q e h = rw (e, and-true (rowWithinOf (sizesOf t .variables) (rowAt t w p) (restAt t w m))) h
 
   -- ---- at a place: a point, or an entry

@@ -55,16 +55,20 @@ unfoldable pub onlyIf : Bool → List Outcome → List Outcome
 onlyIf true l = l
 onlyIf false l = []
 
--- by what stands at the point, its held set s and its row r: 'assign, the row with the written interval, unless none; test, each side whose
--- narrowing isn't none; lock m, if m isn't held, the row met with m's rest row, unless empty, held set with m; unlock m, if m is held, the same
--- row, held set without m. Otherwise there is no outcome'
-unfoldable pub outcomesBy : List ℤ → List ℤ → Point → ℕ → Row → List Outcome
-outcomesBy t w End s r = []
-outcomesBy t w (Assign v e q) s r = outcomeIf (assigned (writtenOf t e r) v r) s q
-outcomesBy t w (Test c y n) s r =
+-- by the rest row of each mutex, what stands at the point, its held set s and its row r: 'assign, the row with the written interval, unless none;
+-- test, each side whose narrowing isn't none; lock m, if m isn't held, the row met with m's rest row, unless empty, held set with m; unlock m, if m
+-- is held, the same row, held set without m. Otherwise there is no outcome'
+unfoldable pub outcomesWith : List ℤ → (ℕ → Row) → Point → ℕ → Row → List Outcome
+outcomesWith t rest End s r = []
+outcomesWith t rest (Assign v e q) s r = outcomeIf (assigned (writtenOf t e r) v r) s q
+outcomesWith t rest (Test c y n) s r =
     outcomeIf (narrowOf (condAt (nodesOf t) c) true (ownOf r)) s y ++ outcomeIf (narrowOf (condAt (nodesOf t) c) false (ownOf r)) s n
-outcomesBy t w (Lock m q) s r = onlyIf (not (hasOf s m)) (outcomeIf (meetRowsOf (sizesOf t .variables) r (restAt t w m)) (withOf s m) q)
-outcomesBy t w (Unlock m q) s r = onlyIf (hasOf s m) (outcomeIf (some r) (withoutOf s m) q)
+outcomesWith t rest (Lock m q) s r = onlyIf (not (hasOf s m)) (outcomeIf (meetRowsOf (sizesOf t .variables) r (rest m)) (withOf s m) q)
+outcomesWith t rest (Unlock m q) s r = onlyIf (hasOf s m) (outcomeIf (some r) (withoutOf s m) q)
+
+-- with the rest rows of the proposal
+unfoldable pub outcomesBy : List ℤ → List ℤ → Point → ℕ → Row → List Outcome
+outcomesBy t w x s r = outcomesWith t (λ m. restAt t w m) x s r
 
 unfoldable pub outcomesOf : List ℤ → List ℤ → ℕ → List Outcome
 outcomesOf t w p = outcomesBy t w (pointOf (pointsOf t) p) (heldOf w p) (rowAt t w p)

@@ -17,6 +17,7 @@ use lib.ListN.{length, getD, set, length-set}
 use lib.Seq.{getD-set-same, getD-set-other}
 use Rattle.words.specs.Words.{wordOf, numberOf}
 use Rattle.words.proofs.Bools.{clash}
+use Rattle.words.proofs.ListLaws.{at-each}
 use Rattle.table.specs.Layout.{sizesOf, taskOf}
 use Rattle.table.specs.Passes.{Passes}
 use Rattle.analysis.specs.Rows.{Inside}
@@ -28,7 +29,6 @@ use Rattle.checker.specs.Laws.{onList}
 use Rattle.run.specs.declared.State.{State}
 use Rattle.run.specs.State.{pointIn, ownerIn, stopNodeIn, stopKindIn, isFree, isNumber, ownsOf, withStopOf}
 use Rattle.soundness.specs.Safe.{Reached, HoldsNamed, Listed, Safe}
-use Rattle.soundness.proofs.RowLaws.{at-each}
 
 -- ---- held words and owners
 pub named-owned : (owned named : Bool) → HoldsNamed owned named → named ≡ true → owned ≡ true

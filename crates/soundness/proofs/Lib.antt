@@ -1,4 +1,3 @@
-pub mod HeldLaws
 pub mod RowLaws
 pub mod BringsLaws
 pub mod RuleLaws

@@ -31,6 +31,7 @@ use Rattle.interval.proofs.LatticeLaws.{within-holds, holds-some, meet-contains
 use Rattle.words.specs.Words.{wordOf}
 use Rattle.words.specs.First.{allBelow}
 use Rattle.words.proofs.FirstLaws.{allBelow-each, each-allBelow}
+use Rattle.words.proofs.ListLaws.{at-each}
 use Rattle.words.proofs.PartLaws.{part-length}
 use Rattle.table.specs.Layout.{sizesOf, startsOf}
 use Rattle.table.proofs.LayoutLaws.{part-within}
@@ -40,16 +41,6 @@ use Rattle.rules.specs.Proposal.{rowsOf, intervalsOf, lowsFrom, proposalLength,
 use Rattle.rules.specs.Outcomes.{rowWithinOf, meetRowsOf, assigned}
 use Rattle.rules.specs.Rules.{holdsStart}
 use Rattle.run.specs.State.{valuesOf}
-
--- ---- lists
-module _ {A : Type 0} where
-  -- what holds of the new element at its index, and of the others at theirs, holds at each
-  pub at-each : (P : ℕ → A → Type 0) (l : List A) (u : ℕ) (q d : A) → u < length l → P u q → ((x : ℕ) → (x ≡ u → ⊥) → P x (getD l x d))
-      → (x : ℕ) → P x (getD (set l u q) x d)
-  at-each P l u q d h p rest x = elim (ℕ-discrete x u) [
-    | yes e ↦ subst (λ (k : ℕ). P k (getD (set l u q) k d)) (sym e) (subst (λ (y : A). P u y) (sym (getD-set-same l u q d h)) p)
-    | no n ↦ subst (λ (y : A). P x y) (sym (getD-set-other l u x q d n)) (rest x n)
-  ]
 
 -- the first sixteen words of a list that has no more
 slots-word : (ws : List ℤ) (v : ℕ) → length ws ≤ 16 → wordOf (slotsOf ws) v ≡ wordOf ws v

@@ -33,13 +33,13 @@ use Rattle.table.proofs.PassLaws.{passes}
 use Rattle.analysis.specs.Rows.{Row, Inside}
 use Rattle.rules.specs.Held.{hasOf, disjointOf}
 use Rattle.rules.specs.Proposal.{entriesOf, headsFrom, lowsFrom, heldWordOf, heldOf, reachedOf, headOf, rowAt, restAt, entryLow, entryHigh}
-use Rattle.rules.specs.Outcomes.{Outcome, rowWithinOf, writtenOf, outcomeIf, onlyIf, outcomesBy, outcomesOf}
+use Rattle.rules.specs.Outcomes.{Outcome, rowWithinOf, writtenOf, outcomeIf, onlyIf, outcomesWith, outcomesBy, outcomesOf}
 use Rattle.rules.specs.Rules.{minusOne, implies, allOutcomes, heldInRange, rule9, holdsStart, isFirst, startPoint, rule11, heldFits, locksFit, rowsFit, rule12, rule13, files, filed, writes, rule14, takes, disturbs, undisturbed, rule15, rests, restPoint, restEntry, rule16}
 use Rattle.checker.specs.Laws.{Accepts}
 use Rattle.run.specs.State.{valuesOf}
 use Rattle.run.proofs.SlotLaws.{first-point}
 use Rattle.soundness.specs.Safe.{Reached}
-use Rattle.soundness.proofs.HeldLaws.{few-small}
+use Rattle.rules.proofs.SetLaws.{few-small}
 use Rattle.soundness.proofs.RowLaws.{Past, within-inside, start-inside}
 use Rattle.soundness.proofs.BringsLaws.{all-in, Brings}
 
@@ -173,7 +173,7 @@ module _ {t w : List ℤ} {room count : ℕ} (ok : Accepts t w room count) where
   -- 16
   pub unlock-within : (p m q : ℕ) → Reached t w p → pointOf (pointsOf t) p ≡ Unlock m q → hasOf (heldOf w p) m ≡ true
       → rowWithinOf (sizesOf t .variables) (rowAt t w p) (restAt t w m) ≡ true
-  unfolding rule16 restPoint rests outcomesOf outcomesBy onlyIf outcomeIf allOutcomes
+  unfolding rule16 restPoint rests outcomesOf outcomesWith outcomesBy onlyIf outcomeIf allOutcomes
   unlock-within p m q r is n =
       let l = r .point in
       let told = implied (reachedOf w p) _ (low-place p (sizesOf t .points) _ _ (ok .rest p (omega arith)) l) (reached-test p r) in

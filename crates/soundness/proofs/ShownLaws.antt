@@ -25,7 +25,7 @@ use Rattle.analysis.specs.Rows.{slotsOf, rowIf, each}
 use Rattle.analysis.specs.Alarms.{alarmIf, toldOf, lists}
 use Rattle.analysis.specs.Analysis.{valueOf}
 use Rattle.rules.specs.Proposal.{entriesOf, intervalsOf, headsFrom, lowsFrom, proposalLength, heldWordOf, heldOf, headsOf, headOf, lowsOf, highsOf, rowAt, entriesAt, entryLow, entryHigh}
-use Rattle.rules.specs.Outcomes.{rowWithinOf, meetRowsOf, assigned, writtenOf, outcomeIf, onlyIf, outcomesBy, outcomesOf}
+use Rattle.rules.specs.Outcomes.{rowWithinOf, meetRowsOf, assigned, writtenOf, outcomeIf, onlyIf, outcomesWith, outcomesBy, outcomesOf}
 use Rattle.rules.specs.Rules.{allOutcomes, rule8, heldInRange, headInRange, rule9, beforeOf, rule10, holdsStart, startPoint, rule11, locksFit, rowsFit, rule12, rule13, files, filed, writes, rule14, takes, disturbs, undisturbed, rule15, rests, restPoint, restEntry, rule16}
 use Rattle.rules.specs.Alarms.{alarmsBy, alarmsIf, alarmsAt}
 use Rattle.rules.specs.Examine.{firstBadIn, layoutStage, wordsStage, startStage, outcomeStage, sharedStage, readyOf, examinedOf}
@@ -44,7 +44,7 @@ use Rattle.soundness.proofs.Whole.{whole, list-is}
 checked : (checkOf table proposal (length buffer) ≡ Accepted 3)
     × (alarmWords table proposal ≡ alarms)
     × (checkOf table (proposed (pos 3)) (length buffer) ≡ Refused 14 3)
-unfolding minZ maxZ min4Z max4Z eqZ onEnds withinOf meetOf hullOf belowOf aboveOf eitherPartOf largestOf remainderLowOf remainderHighOf remaindersOf uncutOf computedOf operateOf numberOf unless orElse firstBad allBelow someBelow refuse andThen sharesOf startsOf pointsOf nodesOf fourBy fourOf firstIn laterOf lastIn firstOf taskOf kept shapeBy shapeFrom pointBy pointFrom arithBy arithF arithAt nodeFieldsOf pointFieldsOf fitsOf refOf refsBelow countOf usesOf sizesStage partsStage tabulate slotsOf rowIf each alarmIf toldOf lists valueOf entriesOf intervalsOf headsFrom lowsFrom proposalLength heldWordOf heldOf headsOf headOf lowsOf highsOf rowAt entriesAt entryLow entryHigh rowWithinOf meetRowsOf assigned writtenOf outcomeIf onlyIf outcomesBy outcomesOf allOutcomes rule8 heldInRange headInRange rule9 beforeOf rule10 holdsStart startPoint rule11 locksFit rowsFit rule12 rule13 files filed writes rule14 takes disturbs undisturbed rule15 rests restPoint restEntry rule16 alarmsBy alarmsIf alarmsAt firstBadIn layoutStage wordsStage startStage outcomeStage sharedStage readyOf examinedOf raised pairIf pairsAt pairsOf alarmWords roomStage stagesOf verdictBy checkOf
+unfolding minZ maxZ min4Z max4Z eqZ onEnds withinOf meetOf hullOf belowOf aboveOf eitherPartOf largestOf remainderLowOf remainderHighOf remaindersOf uncutOf computedOf operateOf numberOf unless orElse firstBad allBelow someBelow refuse andThen sharesOf startsOf pointsOf nodesOf fourBy fourOf firstIn laterOf lastIn firstOf taskOf kept shapeBy shapeFrom pointBy pointFrom arithBy arithF arithAt nodeFieldsOf pointFieldsOf fitsOf refOf refsBelow countOf usesOf sizesStage partsStage tabulate slotsOf rowIf each alarmIf toldOf lists valueOf entriesOf intervalsOf headsFrom lowsFrom proposalLength heldWordOf heldOf headsOf headOf lowsOf highsOf rowAt entriesAt entryLow entryHigh rowWithinOf meetRowsOf assigned writtenOf outcomeIf onlyIf outcomesWith outcomesBy outcomesOf allOutcomes rule8 heldInRange headInRange rule9 beforeOf rule10 holdsStart startPoint rule11 locksFit rowsFit rule12 rule13 files filed writes rule14 takes disturbs undisturbed rule15 rests restPoint restEntry rule16 alarmsBy alarmsIf alarmsAt firstBadIn layoutStage wordsStage startStage outcomeStage sharedStage readyOf examinedOf raised pairIf pairsAt pairsOf alarmWords roomStage stagesOf verdictBy checkOf
 checked = (refl, refl, refl)
 
 played : (runOf table dividing .state ≡ stopped 1 7 (pos 0) (pos 0) (pos 1) (negsuc 0) (pos 6) 0 2)

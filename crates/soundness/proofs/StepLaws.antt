@@ -18,6 +18,7 @@ use lib.Seq.{getD-set-other}
 use Rattle.interval.proofs.IntegerLaws.{is-false}
 use Rattle.words.specs.Words.{wordOf}
 use Rattle.words.proofs.Bools.{clash}
+use Rattle.words.proofs.ListLaws.{at-each}
 use Rattle.words.proofs.FirstLaws.{each-allBelow}
 use Rattle.table.specs.declared.Point.{Point}
 use Rattle.table.specs.declared.Point.the-variants.{End, Assign, Test, Lock, Unlock}
@@ -35,15 +36,15 @@ use Rattle.analysis.specs.Analysis.{narrowOf}
 use Rattle.analysis.proofs.Laws.{proved as laws}
 use Rattle.rules.specs.Held.{hasOf, withOf, withoutOf, disjointOf}
 use Rattle.rules.specs.Proposal.{rowsOf, heldOf, rowAt, restAt}
-use Rattle.rules.specs.Outcomes.{writtenOf, outcomeIf, outcomesBy, outcomesOf}
+use Rattle.rules.specs.Outcomes.{writtenOf, outcomeIf, outcomesWith, outcomesBy, outcomesOf}
 use Rattle.rules.specs.Rules.{rests}
 use Rattle.checker.specs.Laws.{Accepts}
 use Rattle.run.specs.declared.State.{State}
 use Rattle.run.specs.State.{pointIn, ownerIn, ownsOf, isFree, isNumber}
 use Rattle.run.specs.Step.{assignBy, testBy, lockBy, unlockBy, actOf}
 use Rattle.soundness.specs.Safe.{Reached, HoldsNamed}
-use Rattle.soundness.proofs.HeldLaws.{has-with, has-with-other, has-without, has-without-other, has-past, with-small, without-small}
-use Rattle.soundness.proofs.RowLaws.{at-each, Past, own-inside, write-inside, assigned-keeps, meetRows-keeps, lows-few, highs-few, past-inside, within-inside, lows-length, highs-length}
+use Rattle.rules.proofs.SetLaws.{has-with, has-with-other, has-without, has-without-other, has-past, with-small, without-small}
+use Rattle.soundness.proofs.RowLaws.{Past, own-inside, write-inside, assigned-keeps, meetRows-keeps, lows-few, highs-few, past-inside, within-inside, lows-length, highs-length}
 use Rattle.soundness.proofs.BringsLaws.{Brings, brings-if, brings-only, brings-left, brings-right}
 use Rattle.soundness.proofs.RuleLaws.{Filed, filed-takes, Arrived, formed, held-set, held-small, reached-test, arrive, assign-filed, disturb-takes, unlock-within, entry-takes}
 use Rattle.soundness.proofs.ErrorLaws.{error-on-list, failure-on-list}
@@ -156,7 +157,7 @@ module _ {t w : List ℤ} {room count : ℕ} {s : State} (ok : Accepts t w room 
     -- ---- assign
     assign-keeps : (v e q at : ℕ) → instruction ≡ Assign v e q → (x : Evaluation) → result (arithAt (nodesOf t) e) (s .values) schedule at ≡ x
         → Inv t w (assignBy x s u v q .state)
-    unfolding FormedPoint assignBy outcomesBy writtenOf
+    unfolding FormedPoint assignBy outcomesWith outcomesBy writtenOf
     assign-keeps v e q at pe (Value z g) ev =
         let fm = fields (Assign v e q) pe in
         let hv : v < sizesOf t .variables = fm .0 in
@@ -190,7 +191,7 @@ module _ {t w : List ℤ} {room count : ℕ} {s : State} (ok : Accepts t w room 
 
     test-keeps : (c y n at : ℕ) → instruction ≡ Test c y n → (x : Verity) → truth (condAt (nodesOf t) c) (s .values) schedule at ≡ x
         → Inv t w (testBy x s u y n .state)
-    unfolding FormedPoint testBy outcomesBy
+    unfolding FormedPoint testBy outcomesWith outcomesBy
     test-keeps c y n at pe (Truth true g) ev =
         side-keeps (Test c y n) pe y (fields (Test c y n) pe .1) (brings-left _ _ (brings-if (side c true) (side-kept c at true g ev)))
     test-keeps c y n at pe (Truth false g) ev =
@@ -223,7 +224,7 @@ module _ {t w : List ℤ} {room count : ℕ} {s : State} (ok : Accepts t w room 
 
     -- a free mutex is named at no point, so that the lock has an outcome: the row met with the rest row
     lock-keeps : (m q : ℕ) → instruction ≡ Lock m q → (b : Bool) → isFree (ownerIn s m) ≡ b → Inv t w (lockBy b s u m q)
-    unfolding FormedPoint lockBy outcomesBy
+    unfolding FormedPoint lockBy outcomesWith outcomesBy
     lock-keeps m q pe true e =
         let fm = fields (Lock m q) pe in
         let hm : m < sizesOf t .mutexes = fm .0 in
@@ -238,7 +239,7 @@ module _ {t w : List ℤ} {room count : ℕ} {s : State} (ok : Accepts t w room 
 
     -- a mutex that is given back is named, so that the unlock has an outcome, and the row lies within the rest row
     unlock-keeps : (m q : ℕ) → instruction ≡ Unlock m q → (b : Bool) → ownsOf s u m ≡ b → Inv t w (unlockBy b s u m q)
-    unfolding FormedPoint unlockBy outcomesBy
+    unfolding FormedPoint unlockBy outcomesWith outcomesBy
     unlock-keeps m q pe true e =
         let fm = fields (Unlock m q) pe in
         let hm : m < sizesOf t .mutexes = fm .0 in

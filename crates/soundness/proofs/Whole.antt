@@ -29,7 +29,7 @@ use Rattle.run.proofs.RunLaws.{run-stage, run-last}
 use Rattle.run.proofs.SlotLaws.{first-point}
 use Rattle.soundness.specs.Safe.{Reached, HoldsNamed, Safe}
 use Rattle.soundness.specs.Claim.{listOf, Claim}
-use Rattle.soundness.proofs.HeldLaws.{has-none}
+use Rattle.rules.proofs.SetLaws.{has-none}
 use Rattle.soundness.proofs.RuleLaws.{formed, first-held, first-row, rest-start}
 use Rattle.soundness.proofs.Invariant.{neither, Inv, inv-safe}
 use Rattle.soundness.proofs.StepLaws.{act-keeps}

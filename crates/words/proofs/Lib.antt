@@ -5,4 +5,5 @@ pub mod Laws
 pub mod Signed
 pub mod PartLaws
 pub mod FillLaws
+pub mod ListLaws
 pub mod BelowLaws

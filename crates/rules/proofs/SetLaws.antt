@@ -1,18 +1,19 @@
 -- What `withOf` and `withoutOf` do to each mutex of a set, and how large a set is.
 --     has-with, has-without                   m is there; it is not
 --     has-with-other, has-without-other       every other mutex is as it was
+--     with-set, without-set                   of n mutexes it is still a set
 -- Assumes nothing.
 use Prim.Native.Nat.{ℕ, _+_, _-_, _*_, _/_, _%_, _^_, _<_, _≤_}
 use mathlib.Core.Path.{_≡_, refl, sym, ap, subst, _∙_}
 use mathlib.Core.Bool.{Bool, true, false, cond}
-use native.Mathlib.Nat.{add-mul-div-right, one-mul, pow-suc, div-add-mod', mul-le-mul-right, pow-le-pow-right, div-eq-of-lt, zero-div}
+use native.Mathlib.Nat.{add-mul-div-right, one-mul, pow-suc, div-add-mod', mul-le-mul-right, pow-le-pow-right, div-eq-of-lt, div-lt-iff-lt-mul, zero-div}
 use native.Mathlib.Numerals.{one-add}
 use native.Mathlib.Decide.{decLt}
 use native.Mathlib.Omega.{arith}
 use borrow.Author.Tests.{eqb-true, eqb-false, eq-eqb, ne-eqb}
 use lib.Dec.{eqb}
 use lib.Pow.{pow-pos, pow-add, shr-shr}
 use Rattle.rules.specs.Held.{hasOf, withOf, withoutOf}
 
 -- ---- one mutex more: 2 ^ m added to a set s without m
 even : (q : ℕ) → eqb (q % 2) 1 ≡ false → q % 2 ≡ 0
@@ -107,6 +108,28 @@ has-past s n m h l =
 
 pub has-none : (m : ℕ) → hasOf 0 m ≡ false
 has-none m = ap (λ (x : ℕ). eqb (x % 2) 1) (zero-div (2 ^ m))
+
+-- and with one more or one less of them it is still one of n
+added-set : (s m n : ℕ) → s < 2 ^ n → m < n → hasOf s m ≡ false → s + 2 ^ m < 2 ^ n
+added-set s m n h l e =
+    let q : m + (1 + (n - (m + 1))) ≡ n = omega arith in
+    let z : (s + 2 ^ m) / 2 ^ n ≡ 0 = subst (λ (x : ℕ). (s + 2 ^ m) / 2 ^ x ≡ s / 2 ^ x) q (higher s m (n - (m + 1)) (even (s / 2 ^ m) e)) ∙ div-eq-of-lt h in
+    let one : (s + 2 ^ m) / 2 ^ n < 1 = omega arith in
+    omega (arith, div-lt-iff-lt-mul {k = 2 ^ n} {x = s + 2 ^ m} {y = 1} (pow-pos n) .0 one, one-mul (2 ^ n))
+
+pub with-set : (s m n : ℕ) → s < 2 ^ n → m < n → withOf s m < 2 ^ n
+with-set s m n h l = by (hasOf s m) refl
+  where
+    by : (b : Bool) → hasOf s m ≡ b → cond b s (s + 2 ^ m) < 2 ^ n
+    by true e = h
+    by false e = added-set s m n h l e
+
+pub without-set : (s m n : ℕ) → s < 2 ^ n → withoutOf s m < 2 ^ n
+without-set s m n h = by (hasOf s m)
+  where
+    by : (b : Bool) → cond b (s - 2 ^ m) s < 2 ^ n
+    by true = omega arith
+    by false = h
 
 -- a set of at most eight mutexes is below 256, so that no set that an outcome brings is the number of -1
 pub few-small : (n : ℕ) → n ≤ 8 → 2 ^ n ≤ 256
