@@ -1,5 +1,5 @@
 """The command in this process and in one of its own, cases with their answers, and a table and a proposal in their parts, read here once more."""
-import contextlib, json, os, re, struct, subprocess, sys, tempfile, traceback
+import contextlib, json, os, re, signal, struct, subprocess, sys, tempfile, traceback
 from importlib.machinery import SourceFileLoader
 from types import ModuleType
 
@@ -11,6 +11,7 @@ MIN, MAX = -2147483648, 2147483647
 BAD, TRIED = [], {}
 PRETENDED = ""  # a folder with a kit that only pretends, which tests/tools.py makes
 sys.path.append(TOOLS)
+signal.signal(signal.SIGINT, signal.default_int_handler)  # a job in the background has it ignored, and what it starts would have it too
 
 
 def expect(what, got, want):
