@@ -94,11 +94,11 @@ class Words:
         return "neverreached" if held == -1 else "holds" + set_of(held) if held else ""
 
     def ranges_at(self, p, every):
-        """The ranges that stand at a point: all that some point above that leads there hasn't; all if there is none."""
+        """The ranges that stand at a point: all that no point above that leads there has; all if there is no such point."""
         if self.held[p] == -1:
             return ""
         above = [self.rows[q] for q, to, _ in self.edges() if to == p and q < p and self.held[q] != -1]
-        same = [not every and above != [] and {row[v] for row in above} == {self.rows[p][v]} for v in range(self.variables)]
+        same = [not every and self.rows[p][v] in [row[v] for row in above] for v in range(self.variables)]
         return ",".join("v%d%s" % (v, span(*self.rows[p][v])) for v in range(self.variables) if not same[v])
 
 
@@ -305,11 +305,15 @@ def looped():
     expect("ranges in a loop", [nodes[p][0][2:] for p in range(4)], [["v0 0, v1 0"], ["v1 1..2"], [], []])
     nodes = Graph(drawn(answer, None, True)).nodes
     expect("all ranges in a loop", [nodes[p][0][2:] for p in range(4)], [["v0 0, v1 0"]] + [["v0 0, v1 1..2"]] * 3)
-    # v0 = 0? yes 1, no 2; v1 := 0, on to 2; end: the ways in differ
+    # v0 = 0? yes 1, no 2; v1 := 0, on to 2; end: one of the two ways in has what the end has
     t = table([0, 0], 0, [[[2, 2, 1, 2], [1, 1, 3, 2], [0]]], [[2, 0], [0, 0], [18, 0, 1], [0, 0]])
     w = proposal(t, [0] * 3, [[(0, 1), (0, 0)], [(0, 0), (0, 0)], [(0, 1), (0, 0)]], [], [(0, 0, 1, (0, 0))])
     nodes = Graph(drawn(of(t, w), None, False)).nodes
-    expect("ranges where ways meet", [nodes[p][0][2:] for p in range(3)], [["v0 0..1, v1 0"], ["v0 0"], ["v0 0..1"]])
+    expect("ranges where ways meet", [nodes[p][0][2:] for p in range(3)], [["v0 0..1, v1 0"], ["v0 0"], []])
+    # the same with another range at the end, which differs on both
+    w = proposal(t, [0] * 3, [[(0, 1), (0, 0)], [(0, 0), (0, 0)], [(0, 2), (0, 0)]], [], [(0, 0, 1, (0, 0))])
+    nodes = Graph(drawn(of(t, w), None, False)).nodes
+    expect("ranges that differ where ways meet", [nodes[p][0][2:] for p in range(3)], [["v0 0..1, v1 0"], ["v0 0"], ["v0 0..2"]])
 
 
 def one_task(answer):

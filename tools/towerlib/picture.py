@@ -160,10 +160,10 @@ def alarm_lines(answer, causes, p):
 
 # ---- the boxes
 def printed(proposal, leading, p, every):
-    """The variables whose ranges stand at a point: those that have another range at some point above that leads there, and all if none does. So a range that
-    isn't printed is the one at each point above that leads there."""
+    """The variables whose ranges stand at a point: those that have another range at every point above that leads there, and all if none does. The way back of
+    a loop doesn't count: what holds in the loop would else stand nowhere in it."""
     above = [proposal.rows[q] for q in leading[p] if q < p]
-    return [v for v, ends in enumerate(proposal.rows[p]) if every or not above or any(row[v] != ends for row in above)]
+    return [v for v, ends in enumerate(proposal.rows[p]) if every or not above or all(row[v] != ends for row in above)]
 
 
 def box(answer, leading, causes, p, every):
