@@ -1,110 +1,51 @@
--- The nodes of a table in an array of 4096 words, with zeros behind them, have the same trees: past the last node both read zeros.
+-- What a program has of its table: the same trees at its nodes, the same at its points, and a node's shape by the words that are read of it.
 -- Assumes nothing.
-use Prim.Native.Nat.{ℕ, suc, _+_, _*_, _-_, _<_, _≤_}
-use mathlib.Core.Path.{_≡_, refl, sym, subst, ap, fun-ext, _∙_}
-use mathlib.Core.Bool.{Bool, true, false}
+use Prim.Native.Nat.{ℕ, suc, _+_, _*_, _<_}
+use mathlib.Core.Path.{_≡_, ap, fun-ext}
 use mathlib.Core.List.{List}
-use native.Mathlib.Numerals.{add-one}
 use native.Mathlib.Omega.{arith}
-use borrow.Author.Tests.{ltb-true, ltb-false}
-use lib.Dec.{ltb}
 use lib.IntN.{ℤ, pos}
-use lib.ListN.{length, take, set, replicate, length-append, length-take, length-drop, length-replicate, getD-replicate, List·getD-append, List·getD-eq-default}
-use lib.Seq.{length-take-le, take-suc, append-snoc, getD-append-add, set-at}
-use Rattle.words.specs.Words.{wordOf}
-use Rattle.table.specs.Layout.{sizesOf, nodesOf, fourBy, fourOf}
-use Rattle.table.specs.Decode.{shapeFrom, shapeOf}
+use lib.ListN.{length}
+use lib.Seq.{getD-take}
+use Rattle.words.specs.Words.{wordOf, numberAt}
+use Rattle.words.proofs.PartLaws.{part-length}
+use Rattle.table.specs.Layout.{pointsOf, nodesOf}
+use Rattle.table.specs.Decode.{shapeBy, shapeFrom, shapeOf, pointFrom, pointOf}
 use Rattle.table.specs.Tree.{arithF, condF, arithAt, condAt}
-use Rattle.table.specs.Passes.{Passes}
-use Rattle.run.specs.Codes.{paddedOf, Kept}
-use Rattle.table.proofs.KindLaws.{four-words}
+use Rattle.table.proofs.KindLaws.{node-shape}
+use Rattle.run.specs.Codes.{nodesIn, pointsIn, Kept}
 
--- ---- words with zeros behind them
-zeros : (m i : ℕ) → wordOf (replicate m (pos 0)) i ≡ pos 0
-zeros m i = by (ltb i m) refl
-  where
-    by : (t : Bool) → ltb i m ≡ t → wordOf (replicate m (pos 0)) i ≡ pos 0
-    by true e = getD-replicate m i (pos 0) (pos 0) (ltb-true i m e)
-    by false e = List·getD-eq-default (replicate m (pos 0)) (pos 0) (rw (length-replicate m (pos 0)) (ltb-false i m e))
+module _ {t p : List ℤ} (k : Kept t p) where
+  shapes : shapeOf (nodesIn p) ≡ shapeOf (nodesOf t)
+  shapes = fun-ext (λ n. ap (shapeFrom n) (k .nodes n))
 
-module _ (ws : List ℤ) where
-  past-word : (j : ℕ) → wordOf (paddedOf ws) (length ws + j) ≡ wordOf ws (length ws + j)
-  unfolding paddedOf
-  past-word j =
-      let behind = 4096 - length ws in
-      getD-append-add ws (replicate behind (pos 0)) j (pos 0) ∙ zeros behind j ∙ sym (List·getD-eq-default ws (pos 0) (omega arith))
-
-  padded-word : (i : ℕ) → wordOf (paddedOf ws) i ≡ wordOf ws i
-  unfolding paddedOf
-  padded-word i = by (ltb i (length ws)) refl
-    where
-      by : (t : Bool) → ltb i (length ws) ≡ t → wordOf (paddedOf ws) i ≡ wordOf ws i
-      by true e = List·getD-append ws (replicate (4096 - length ws) (pos 0)) (pos 0) i (ltb-true i _ e)
-      by false e =
-          let past = ltb-false i _ e in
-          subst (λ (k : ℕ). wordOf (paddedOf ws) k ≡ wordOf ws k) (omega arith) (past-word (i - length ws))
-
-pub padded-size : (ws : List ℤ) → length ws ≤ 4096 → length (paddedOf ws) ≡ 4096
-unfolding paddedOf
-padded-size ws h = simp (length-append, length-replicate) (omega arith)
-
--- one word after the other is put over the zeros
-pub padded-next :
-    (ws : List ℤ) (i : ℕ) {w : ℤ} → i < length ws → length ws ≤ 4096 → w ≡ wordOf ws i → set (paddedOf (take i ws)) i w ≡ paddedOf (take (i + 1) ws)
-unfolding paddedOf
-padded-next ws i h few e =
-    let here = length-take-le i ws (omega arith) in
-    let one-less : 4096 - i ≡ suc (4096 - suc i) = omega arith in
-    rw (
-      add-one,
-      length-take-le (suc i) ws h,
-      take-suc ws i (pos 0) h,
-      append-snoc,
-      here,
-      one-less,
-      e,
-    )
-    (set-at (take i ws) (pos 0) _ _ i here)
-
--- ---- nodes with zeros behind them
-module _ (ns : List ℤ) (m : ℕ) (whole : length ns ≡ 4 * m) (few : m ≤ 1024) where
-  padded-four : (n : ℕ) → fourOf (paddedOf ns) n ≡ fourOf ns n
-  unfolding fourBy
-  padded-four n =
-      rw (
-        four-words ns m whole n,
-        four-words (paddedOf ns) 1024 (padded-size ns (omega arith)) n,
-        padded-word ns (4 * n),
-        padded-word ns (4 * n + 1),
-        padded-word ns (4 * n + 2),
-        padded-word ns (4 * n + 3),
-      )
-
-  padded-shapes : shapeOf (paddedOf ns) ≡ shapeOf ns
-  padded-shapes = fun-ext (λ n. ap (shapeFrom n) (padded-four n))
-
-  pub padded-arith : (n : ℕ) → arithAt (paddedOf ns) n ≡ arithAt ns n
+  pub kept-arith : (n : ℕ) → arithAt (nodesIn p) n ≡ arithAt (nodesOf t) n
   unfolding arithAt
-  padded-arith n = ap (λ s. arithF (suc n) s n) padded-shapes
+  kept-arith n = ap (λ s. arithF (suc n) s n) shapes
 
-  pub padded-cond : (n : ℕ) → condAt (paddedOf ns) n ≡ condAt ns n
+  pub kept-cond : (n : ℕ) → condAt (nodesIn p) n ≡ condAt (nodesOf t) n
   unfolding condAt
-  padded-cond n = ap (λ s. condF (suc n) s n) padded-shapes
+  kept-cond n = ap (λ s. condF (suc n) s n) shapes
 
--- ---- the nodes of a table
-node-count : (t : List ℤ) → Passes t → length (nodesOf t) ≡ 4 * sizesOf t .nodes
-unfolding nodesOf
-node-count t ok = simp (length-take, length-drop) (omega (arith, ok .whole))
+  pub kept-point : (q : ℕ) → pointOf (pointsIn p) q ≡ pointOf (pointsOf t) q
+  kept-point q = ap pointFrom (k .points q)
 
-pub few-words : (t : List ℤ) → Passes t → length (nodesOf t) ≤ 4096
-few-words t ok = omega (arith, node-count t ok, ok .nodes .high)
+-- a node's shape, by the words that are read of it
+module _ (p : List ℤ) (size : length p ≡ 5121) (n : ℕ) (few : n < 1024) where
+  node-word : (i : ℕ) → i < 4096 → wordOf (nodesIn p) i ≡ wordOf p i
+  unfolding nodesIn
+  node-word i h = getD-take 4096 p i (pos 0) h
 
-pub kept : (t : List ℤ) → Passes t → Kept t (paddedOf (nodesOf t))
-kept t ok =
-    let whole = node-count t ok in
-    let few = ok .nodes .high in
-    record {
-      size = padded-size (nodesOf t) (few-words t ok);
-      arith = padded-arith (nodesOf t) _ whole few;
-      cond = padded-cond (nodesOf t) _ whole few;
-    }
+  nodes-length : length (nodesIn p) ≡ 4096
+  unfolding nodesIn
+  nodes-length = part-length p 0 4096 (omega arith)
+
+  pub read-shape :
+      {k a b c : ℕ} → k ≡ numberAt p (4 * n) → a ≡ numberAt p (4 * n + 1) → b ≡ numberAt p (4 * n + 2) → c ≡ numberAt p (4 * n + 3) →
+      shapeOf (nodesIn p) n ≡ shapeBy n k (wordOf p (4 * n + 1)) (wordOf p (4 * n + 2)) a b c
+  read-shape ek ea eb ec =
+      let kind = node-word (4 * n) (omega arith) in
+      let first = node-word (4 * n + 1) (omega arith) in
+      let second = node-word (4 * n + 2) (omega arith) in
+      let third = node-word (4 * n + 3) (omega arith) in
+      rw (← first, ← second) (node-shape (nodesIn p) nodes-length n (rw kind ek) (rw first ea) (rw second eb) (rw third ec))

@@ -1,6 +1,7 @@
 pub mod CodeLaws
 pub mod EvaluationLaws
 pub mod KeptLaws
+pub mod LoadLaws
 pub mod EndLaws
 pub mod StartLaws
 pub mod SlotLaws

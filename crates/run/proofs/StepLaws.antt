@@ -16,24 +16,25 @@ use Rattle.table.specs.declared.Evaluation.{Evaluation}
 use Rattle.table.specs.declared.Evaluation.the-variants.{Value, Error}
 use Rattle.table.specs.declared.Verity.{Verity}
 use Rattle.table.specs.declared.Verity.the-variants.{Truth, Failure}
-use Rattle.table.specs.Layout.{sizesOf, pointsOf}
+use Rattle.table.specs.Layout.{pointsOf}
 use Rattle.table.specs.Decode.{pointOf}
 use Rattle.table.specs.Tree.{arithAt, condAt}
 use Rattle.table.specs.Meaning.{result, truth}
 use Rattle.run.specs.declared.State.{State}
 use Rattle.run.specs.declared.Stepped.{Stepped}
-use Rattle.run.specs.Codes.{Kept}
+use Rattle.run.specs.Codes.{nodesIn, tasksIn, Kept}
 use Rattle.run.specs.State.{pointIn, ownerIn, stopKindIn, isFree, ownsOf, stateOf, withPointOf, withValueOf, withOwnerOf}
 use Rattle.run.specs.Step.{stepped, assignBy, testBy, lockBy, unlockBy, actOf, runsOf, turnBy, turnOf, stepBy, stepOf}
+use Rattle.run.proofs.KeptLaws.{kept-arith, kept-cond}
 
 -- ---- whose turn it is
--- the test whether u is a task that hasn't stopped
+-- the test whether u is a task of the program that hasn't stopped
 abbrev Runs : List ℤ → State → ℕ → Bool → Type 0
-Runs t s u b = b ≡ ltb u (sizesOf t .tasks) && eqb (stopKindIn s u) 0
+Runs program s u b = b ≡ ltb u (tasksIn program) && eqb (stopKindIn s u) 0
 
 -- such a u is a task
-pub goes-on : (t : List ℤ) (s : State) (u : ℕ) {b : Bool} → Runs t s u b → not b ≡ false → u < sizesOf t .tasks
-goes-on t s u {b} k n = ltb-true u _ (and-left _ _ (sym k ∙ not-false b n))
+pub goes-on : (program : List ℤ) (s : State) (u : ℕ) {b : Bool} → Runs program s u b → not b ≡ false → u < tasksIn program
+goes-on program s u {b} k n = ltb-true u _ (and-left _ _ (sym k ∙ not-false b n))
 
 module _ (t ws : List ℤ) (s : State) (at : ℕ) {r : Stepped} where
   pub no-word : length ws ≤ at → r ≡ stepped s at → r ≡ stepOf t ws s at
@@ -41,15 +42,16 @@ module _ (t ws : List ℤ) (s : State) (at : ℕ) {r : Stepped} where
   no-word h o = rw (le-ltb _ _ h) o
 
   pub no-turn :
-      {u : ℕ} {b : Bool} → at < length ws → u ≡ numberAt ws at → Runs t s u b → not b ≡ true → r ≡ stepped s (at + 1) → r ≡ stepOf t ws s at
+      {program : List ℤ} {u : ℕ} {b : Bool} → Kept t program → at < length ws → u ≡ numberAt ws at → Runs program s u b → not b ≡ true →
+      r ≡ stepped s (at + 1) → r ≡ stepOf t ws s at
   unfolding stepOf stepBy turnOf turnBy runsOf
-  no-turn {b} h e k n o = rw (lt-ltb _ _ h, ← e, ← k, not-true b n) o
+  no-turn {b} kept h e k n o = rw (lt-ltb _ _ h, ← e, ← kept .tasks, ← k, not-true b n) o
 
   pub turn :
-      {u : ℕ} {b : Bool} → at < length ws → u ≡ numberAt ws at → Runs t s u b → not b ≡ false →
+      {program : List ℤ} {u : ℕ} {b : Bool} → Kept t program → at < length ws → u ≡ numberAt ws at → Runs program s u b → not b ≡ false →
       r ≡ actOf t ws (pointOf (pointsOf t) (pointIn s u)) s u (at + 1) → r ≡ stepOf t ws s at
   unfolding stepOf stepBy turnOf turnBy runsOf
-  turn {b} h e k n o = rw (lt-ltb _ _ h, ← e, ← k, not-false b n) o
+  turn {b} kept h e k n o = rw (lt-ltb _ _ h, ← e, ← kept .tasks, ← k, not-false b n) o
 
 -- ---- the arms
 -- the state with other stop nodes and kinds than s
@@ -114,16 +116,16 @@ module _ (t ws : List ℤ) (s : State) (u p : ℕ) {what : Point} {r : Stepped} 
   ends e o = rw e o
 
   pub assigns :
-      {v e q : ℕ} {nodes : List ℤ} → what ≡ Assign v e q → Kept t nodes → r ≡ assignBy (result (arithAt nodes e) (s .values) ws p) s u v q →
+      {v e q : ℕ} {program : List ℤ} → what ≡ Assign v e q → Kept t program → r ≡ assignBy (result (arithAt (nodesIn program) e) (s .values) ws p) s u v q →
       r ≡ actOf t ws what s u p
   unfolding actOf
-  assigns {e} i k o = rw (i, ← k .arith e) o
+  assigns {e} i k o = rw (i, ← kept-arith k e) o
 
   pub tests :
-      {c y n : ℕ} {nodes : List ℤ} → what ≡ Test c y n → Kept t nodes → r ≡ testBy (truth (condAt nodes c) (s .values) ws p) s u y n →
+      {c y n : ℕ} {program : List ℤ} → what ≡ Test c y n → Kept t program → r ≡ testBy (truth (condAt (nodesIn program) c) (s .values) ws p) s u y n →
       r ≡ actOf t ws what s u p
   unfolding actOf
-  tests {c} i k o = rw (i, ← k .cond c) o
+  tests {c} i k o = rw (i, ← kept-cond k c) o
 
   pub locks : {m q : ℕ} → what ≡ Lock m q → r ≡ stepped (lockBy (isFree (ownerIn s m)) s u m q) p → r ≡ actOf t ws what s u p
   unfolding actOf

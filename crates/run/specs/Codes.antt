@@ -1,24 +1,25 @@
 -- What the evaluators give and take, in the form that the code has it: a result is one number, what a node does goes by the number of its kind, and
--- a table's nodes lie in an array.
+-- what is read of a table lies in an array.
 -- Assumes nothing.
 use Prim.Native.Nat.{ℕ, _+_, _*_, _-_, _/_, _%_}
 use mathlib.Core.Path.{_≡_}
 use mathlib.Core.Bool.{Bool, true, false, _&&_, _||_}
-use mathlib.Core.List.{List, _++_}
+use mathlib.Core.List.{List}
 use lib.Dec.{eqb}
 use lib.IntN.{ℤ, pos, negsuc}
-use lib.ListN.{length, replicate}
+use lib.ListN.{length}
 use lib.Signed.{leZ, _≤ℤ_}
 use mir.Syntax.{w32}
 use mir.Val.{SFits}
 use Rattle.interval.specs.Integer.{eqZ}
+use Rattle.words.specs.Words.{numberAt, partOf}
 use Rattle.table.specs.declared.Evaluation.{Evaluation}
 use Rattle.table.specs.declared.Evaluation.the-variants.{Value, Error}
 use Rattle.table.specs.declared.Verity.{Verity}
 use Rattle.table.specs.declared.Verity.the-variants.{Truth, Failure}
-use Rattle.table.specs.Layout.{nodesOf}
+use Rattle.table.specs.Layout.{sizesOf, pointsOf, nodesOf, fourOf}
 use Rattle.table.specs.Decode.{pick}
-use Rattle.table.specs.Tree.{arithAt, condAt}
+use Rattle.table.specs.Passes.{Passes}
 
 -- ---- a result as one number: a word is itself, and an error of the kind k, 1 or 2, at the node n is 4294967296 + 2 n + k, past every word
 abbrev pub isError : ℤ → Bool
@@ -72,13 +73,25 @@ truthNumber t = pick t (pos 1) (pos 0)
 unfoldable pub kindPair : ℕ → Bool → Bool → Bool
 kindPair k t u = pick (eqb k 20) (t && u) (t || u)
 
--- ---- a table's nodes in an array
--- at most 4096 words, with zeros behind them
-unfoldable pub paddedOf : List ℤ → List ℤ
-paddedOf ws = ws ++ replicate (4096 - length ws) (pos 0)
+-- ---- what a step reads of a table, in one array: 4096 words of nodes, 1024 words of points, each with zeros behind them, and the number of tasks
+unfoldable pub nodesIn : List ℤ → List ℤ
+nodesIn program = partOf program 0 4096
 
--- an array of 4096 words with the trees of the table t
-pub record Kept (t nodes : List ℤ) : Type 0 where
-  pub size : length nodes ≡ 4096
-  pub arith : (n : ℕ) → arithAt nodes n ≡ arithAt (nodesOf t) n
-  pub cond : (n : ℕ) → condAt nodes n ≡ condAt (nodesOf t) n
+unfoldable pub pointsIn : List ℤ → List ℤ
+pointsIn program = partOf program 4096 1024
+
+abbrev pub tasksIn : List ℤ → ℕ
+tasksIn program = numberAt program 5120
+
+-- the program is that of the table t; past the last node and the last point both read zeros
+pub record Kept (t program : List ℤ) : Type 0 where
+  pub size : length program ≡ 5121
+  pub nodes : (n : ℕ) → fourOf (nodesIn program) n ≡ fourOf (nodesOf t) n
+  pub points : (p : ℕ) → fourOf (pointsIn program) p ≡ fourOf (pointsOf t) p
+  pub tasks : tasksIn program ≡ sizesOf t .tasks
+
+-- it is that of a table that passes refusals 1 to 6
+pub record Loaded (program : List ℤ) : Type 0 where
+  pub table : List ℤ
+  pub passes : Passes table
+  pub kept : Kept table program

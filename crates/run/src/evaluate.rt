@@ -1,5 +1,6 @@
 // The evaluation of arithmetic and of conditions from the variables' values and the schedule's words, from the position `at` on. What it comes to is
-// one number (specs/Codes), and nodes and values are lent as arrays: these are handed on in registers, where an enum and a slice go through memory.
+// one number (specs/Codes). The program, which has what is read of the table, and the values are lent as arrays: these are handed on in registers,
+// where an enum and a slice go through memory.
 // The three functions at the end call each other, the node number falling.
 use interval::integer::minus;
 use interval::integer::negative;
@@ -28,7 +29,7 @@ ghost use Rattle.table.specs.declared.Verity.the-variants.{Truth};
 ghost use Rattle.table.specs.Tree.{arithAt, condAt};
 ghost use Rattle.table.specs.Meaning.{valueThen, valueThenTell, truthThen, fit as fitOf, performBy, perform as performOf, inputBy, result, truth};
 ghost use Rattle.table.specs.Decode.{Leaf, kindOperation, kindComparison};
-ghost use Rattle.run.specs.Codes.{isError, errorOf, errorNumber, errorNode, errorKind, Failed, Code, evaluationOf, verityOf, truthNumber, kindPair};
+ghost use Rattle.run.specs.Codes.{isError, errorOf, errorNumber, errorNode, errorKind, Failed, Code, evaluationOf, verityOf, truthNumber, kindPair, nodesIn};
 
 // ---- words and errors as numbers
 
@@ -227,125 +228,130 @@ fn opposite(x: i64) -> i64
 // ---- the trees
 
 // What the node n comes to where it is a constant, a variable or no arithmetic: no child is evaluated and no word of the schedule read.
-fn leaf<'a>(nodes: &'a [i32; 4096], n: usize, values: &'a [i32; 16]) -> i64
-    requires { ⌜ length (now nodes) ≡ 4096 ⌝ }
+fn leaf<'a>(program: &'a [i32; 5121], n: usize, values: &'a [i32; 16]) -> i64
+    requires { ⌜ length (now program) ≡ 5121 ⌝ }
     requires { ⌜ n < 1024 ⌝ }
-    requires { ⌜ Leaf (numberAt (now nodes) (4 * n)) ⌝ }
-    ensures { λ r. ⌜ ((ws : List ℤ) (p : ℕ) → evaluationOf r p ≡ result (arithAt (now (nodes .entry)) n) (now (values .entry)) ws p) ⌝ }
+    requires { ⌜ Leaf (numberAt (now program) (4 * n)) ⌝ }
+    ensures { λ r. ⌜ ((ws : List ℤ) (p : ℕ) → evaluationOf r p ≡ result (arithAt (nodesIn (now (program .entry))) n) (now (values .entry)) ws p) ⌝ }
     ensures { λ r. ⌜ Code r ⌝ }
 {
-    match number(nodes[4 * n]) {
-        0 => widen(nodes[4 * n + 1]),
-        2 => widen(word(values, number(nodes[4 * n + 1]))),
+    match number(program[4 * n]) {
+        0 => widen(program[4 * n + 1]),
+        2 => widen(word(values, number(program[4 * n + 1]))),
         _ => 0,
     }
 }
 
 // What the arithmetic node n comes to, below another node. Constants and variables, the most frequent ones, are read without a call.
 fn operand<'a, 'b>(
-    nodes: &'a [i32; 4096],
+    program: &'a [i32; 5121],
     n: usize,
     values: &'a [i32; 16],
     schedule: &'a [i32],
     at: &'b mut usize,
 ) -> i64
-    requires { ⌜ length (now nodes) ≡ 4096 ⌝ }
+    requires { ⌜ length (now program) ≡ 5121 ⌝ }
     requires { ⌜ n < 1024 ⌝ }
-    ensures { λ r. ⌜ evaluationOf r (now (at .exit)) ≡ result (arithAt (now (nodes .entry)) n) (now (values .entry)) (now (schedule .entry)) (now (at .entry)) ⌝ }
+    ensures { λ r. ⌜ evaluationOf r (now (at .exit)) ≡ result (arithAt (nodesIn (now (program .entry))) n) (now (values .entry)) (now (schedule .entry)) (now (at .entry)) ⌝ }
     ensures { λ r. ⌜ Code r ⌝ }
 {
-    match number(nodes[4 * n]) {
-        0 => leaf(nodes, n, values),
-        2 => leaf(nodes, n, values),
-        _ => value(nodes, n, values, schedule, at),
+    match number(program[4 * n]) {
+        0 => leaf(program, n, values),
+        2 => leaf(program, n, values),
+        _ => value(program, n, values, schedule, at),
     }
 }
 
 // What the arithmetic node n comes to. A step calls this function and not `operand`: with two callers it isn't inlined into `operand`, which stays
 // small enough to be inlined itself.
 pub(crate) fn value<'a, 'b>(
-    nodes: &'a [i32; 4096],
+    program: &'a [i32; 5121],
     n: usize,
     values: &'a [i32; 16],
     schedule: &'a [i32],
     at: &'b mut usize,
 ) -> i64
-    requires { ⌜ length (now nodes) ≡ 4096 ⌝ }
+    requires { ⌜ length (now program) ≡ 5121 ⌝ }
     requires { ⌜ n < 1024 ⌝ }
-    ensures { λ r. ⌜ evaluationOf r (now (at .exit)) ≡ result (arithAt (now (nodes .entry)) n) (now (values .entry)) (now (schedule .entry)) (now (at .entry)) ⌝ }
+    ensures { λ r. ⌜ evaluationOf r (now (at .exit)) ≡ result (arithAt (nodesIn (now (program .entry))) n) (now (values .entry)) (now (schedule .entry)) (now (at .entry)) ⌝ }
     ensures { λ r. ⌜ Code r ⌝ }
 {
-    let k = number(nodes[4 * n]);
-    let a = number(nodes[4 * n + 1]);
-    let b = number(nodes[4 * n + 2]);
-    let c = number(nodes[4 * n + 3]);
+    let k = number(program[4 * n]);
+    let a = number(program[4 * n + 1]);
+    let b = number(program[4 * n + 2]);
+    let c = number(program[4 * n + 3]);
     match k {
-        1 => input(nodes[4 * n + 1], nodes[4 * n + 2], schedule, at),
+        1 => input(program[4 * n + 1], program[4 * n + 2], schedule, at),
         3 => if a < n {
-            negated(n, operand(nodes, a, values, schedule, at))
+            negated(n, operand(program, a, values, schedule, at))
         } else {
             0
         },
         8 => if (a < n) & both_below(n, b, c) {
-            let t = verity(nodes, a, values, schedule, at);
+            let t = verity(program, a, values, schedule, at);
             if is_error(t) {
                 return t;
             }
             let taken = if is_true(t) { b } else { c };
-            operand(nodes, taken, values, schedule, at)
+            operand(program, taken, values, schedule, at)
         } else {
             0
         },
         4..=9 => if both_below(n, a, b) {
-            let left = operand(nodes, a, values, schedule, at);
+            let left = operand(program, a, values, schedule, at);
             if is_error(left) {
                 return left;
             }
-            performed(n, k, word_of(left), operand(nodes, b, values, schedule, at))
+            performed(
+                n,
+                k,
+                word_of(left),
+                operand(program, b, values, schedule, at),
+            )
         } else {
             0
         },
-        _ => leaf(nodes, n, values),
+        _ => leaf(program, n, values),
     }
 }
 
 // What the condition node n comes to.
 pub(crate) fn verity<'a, 'b>(
-    nodes: &'a [i32; 4096],
+    program: &'a [i32; 5121],
     n: usize,
     values: &'a [i32; 16],
     schedule: &'a [i32],
     at: &'b mut usize,
 ) -> i64
-    requires { ⌜ length (now nodes) ≡ 4096 ⌝ }
+    requires { ⌜ length (now program) ≡ 5121 ⌝ }
     requires { ⌜ n < 1024 ⌝ }
-    ensures { λ r. ⌜ verityOf r (now (at .exit)) ≡ truth (condAt (now (nodes .entry)) n) (now (values .entry)) (now (schedule .entry)) (now (at .entry)) ⌝ }
+    ensures { λ r. ⌜ verityOf r (now (at .exit)) ≡ truth (condAt (nodesIn (now (program .entry))) n) (now (values .entry)) (now (schedule .entry)) (now (at .entry)) ⌝ }
     ensures { λ r. ⌜ Code r ⌝ }
 {
-    let k = number(nodes[4 * n]);
-    let a = number(nodes[4 * n + 1]);
-    let b = number(nodes[4 * n + 2]);
+    let k = number(program[4 * n]);
+    let a = number(program[4 * n + 1]);
+    let b = number(program[4 * n + 2]);
     match k {
         16..=19 => if both_below(n, a, b) {
-            let x = operand(nodes, a, values, schedule, at);
+            let x = operand(program, a, values, schedule, at);
             if is_error(x) {
                 return x;
             }
-            compared(k, word_of(x), operand(nodes, b, values, schedule, at))
+            compared(k, word_of(x), operand(program, b, values, schedule, at))
         } else {
             0
         },
         20..=21 => if both_below(n, a, b) {
-            let first = verity(nodes, a, values, schedule, at);
+            let first = verity(program, a, values, schedule, at);
             if is_error(first) {
                 return first;
             }
-            paired(k, is_true(first), verity(nodes, b, values, schedule, at))
+            paired(k, is_true(first), verity(program, b, values, schedule, at))
         } else {
             0
         },
         22 => if a < n {
-            opposite(verity(nodes, a, values, schedule, at))
+            opposite(verity(program, a, values, schedule, at))
         } else {
             0
         },

@@ -11,8 +11,8 @@ use crate::evaluate::verity;
 use crate::evaluate::word_of;
 use table::Point;
 use table::decode::point_at;
-use table::layout::point_words;
 use words::number_at;
+use words::part;
 ghost use mathlib.Core.Path.{_≡_};
 ghost use mathlib.Core.Bool.{cond, _&&_};
 ghost use mathlib.Core.List.{List};
@@ -21,12 +21,11 @@ ghost use lib.Dec.{eqb, ltb};
 ghost use lib.IntN.{ℤ, pos};
 ghost use lib.ListN.{length, getD, set};
 ghost use Rattle.words.specs.Words.{wordOf};
-ghost use Rattle.table.specs.Layout.{sizesOf, pointsOf};
+ghost use Rattle.table.specs.Layout.{pointsOf};
 ghost use Rattle.table.specs.Decode.{pointOf};
 ghost use Rattle.table.specs.Tree.{arithAt, condAt};
 ghost use Rattle.table.specs.Meaning.{result, truth};
-ghost use Rattle.table.specs.Passes.{Passes};
-ghost use Rattle.run.specs.Codes.{Kept};
+ghost use Rattle.run.specs.Codes.{nodesIn, tasksIn, Kept, Loaded};
 ghost use Rattle.run.specs.State.{isFree, isNumber, stateOf};
 ghost use Rattle.run.specs.Step.{stepped, assignBy, testBy, lockBy, unlockBy, actOf, stepOf};
 
@@ -56,11 +55,11 @@ fn owns(owners: &[i8; 8], m: usize, u: usize) -> bool
 }
 
 // Whether u is a task that hasn't stopped.
-fn runs(table: &[i32], stop_kinds: &[u8; 8], u: usize) -> bool
-    requires { ⌜ sizesOf (now table) .tasks ≤ 8 ⌝ }
-    ensures { λ r. ⌜ r ≡ ltb u (sizesOf (now (table .entry)) .tasks) && eqb (getD (now («stop_kinds» .entry)) u 0) 0 ⌝ }
+fn runs(program: &[i32; 5121], stop_kinds: &[u8; 8], u: usize) -> bool
+    requires { ⌜ tasksIn (now program) ≤ 8 ⌝ }
+    ensures { λ r. ⌜ r ≡ ltb u (tasksIn (now (program .entry))) && eqb (getD (now («stop_kinds» .entry)) u 0) 0 ⌝ }
 {
-    if u < number_at(table, 0) {
+    if u < number_at(program, 5120) {
         stop_kinds[u] == 0
     } else {
         false
@@ -91,7 +90,7 @@ fn assign<'a, 'b>(
     values: &'b mut [i32; 16],
     stop_nodes: &'b mut [i16; 8],
     stop_kinds: &'b mut [u8; 8],
-    nodes: &'a [i32; 4096],
+    program: &'a [i32; 5121],
     schedule: &'a [i32],
     at: usize,
     u: usize,
@@ -99,11 +98,11 @@ fn assign<'a, 'b>(
     e: usize,
     q: usize,
 ) -> usize
-    requires { ⌜ (u < 8) × (v < 16) × (e < 1024) × (q < 256) × (length (now nodes) ≡ 4096) ⌝ }
-    ensures { λ r. ⌜ ((o : List ℤ) → stepped (stateOf (now (points .exit)) (now (values .exit)) o (now («stop_nodes» .exit)) (now («stop_kinds» .exit))) r ≡ assignBy (result (arithAt (now (nodes .entry)) e) (now (values .entry)) (now (schedule .entry)) at) (stateOf (now (points .entry)) (now (values .entry)) o (now («stop_nodes» .entry)) (now («stop_kinds» .entry))) u v q) ⌝ }
+    requires { ⌜ (u < 8) × (v < 16) × (e < 1024) × (q < 256) × (length (now program) ≡ 5121) ⌝ }
+    ensures { λ r. ⌜ ((o : List ℤ) → stepped (stateOf (now (points .exit)) (now (values .exit)) o (now («stop_nodes» .exit)) (now («stop_kinds» .exit))) r ≡ assignBy (result (arithAt (nodesIn (now (program .entry))) e) (now (values .entry)) (now (schedule .entry)) at) (stateOf (now (points .entry)) (now (values .entry)) o (now («stop_nodes» .entry)) (now («stop_kinds» .entry))) u v q) ⌝ }
 {
     let mut last = at;
-    let z = value(nodes, e, &*values, schedule, &mut last);
+    let z = value(program, e, &*values, schedule, &mut last);
     if is_error(z) {
         stop(stop_nodes, stop_kinds, u, error_node(z), error_kind(z));
     } else {
@@ -119,7 +118,7 @@ fn test<'a, 'b>(
     values: &'a [i32; 16],
     stop_nodes: &'b mut [i16; 8],
     stop_kinds: &'b mut [u8; 8],
-    nodes: &'a [i32; 4096],
+    program: &'a [i32; 5121],
     schedule: &'a [i32],
     at: usize,
     u: usize,
@@ -127,11 +126,11 @@ fn test<'a, 'b>(
     y: usize,
     n: usize,
 ) -> usize
-    requires { ⌜ (u < 8) × (c < 1024) × (y < 256) × (n < 256) × (length (now nodes) ≡ 4096) ⌝ }
-    ensures { λ r. ⌜ ((o : List ℤ) → stepped (stateOf (now (points .exit)) (now (values .entry)) o (now («stop_nodes» .exit)) (now («stop_kinds» .exit))) r ≡ testBy (truth (condAt (now (nodes .entry)) c) (now (values .entry)) (now (schedule .entry)) at) (stateOf (now (points .entry)) (now (values .entry)) o (now («stop_nodes» .entry)) (now («stop_kinds» .entry))) u y n) ⌝ }
+    requires { ⌜ (u < 8) × (c < 1024) × (y < 256) × (n < 256) × (length (now program) ≡ 5121) ⌝ }
+    ensures { λ r. ⌜ ((o : List ℤ) → stepped (stateOf (now (points .exit)) (now (values .entry)) o (now («stop_nodes» .exit)) (now («stop_kinds» .exit))) r ≡ testBy (truth (condAt (nodesIn (now (program .entry))) c) (now (values .entry)) (now (schedule .entry)) at) (stateOf (now (points .entry)) (now (values .entry)) o (now («stop_nodes» .entry)) (now («stop_kinds» .entry))) u y n) ⌝ }
 {
     let mut last = at;
-    let z = verity(nodes, c, values, schedule, &mut last);
+    let z = verity(program, c, values, schedule, &mut last);
     if is_error(z) {
         stop(stop_nodes, stop_kinds, u, error_node(z), error_kind(z));
     } else {
@@ -169,16 +168,15 @@ fn act<'a, 'b>(
     owners: &'b mut [i8; 8],
     stop_nodes: &'b mut [i16; 8],
     stop_kinds: &'b mut [u8; 8],
-    table: &'a [i32],
-    nodes: &'a [i32; 4096],
+    program: &'a [i32; 5121],
     schedule: &'a [i32],
     at: usize,
     u: usize,
 ) -> usize
-    requires { ⌜ Passes (now table) × Kept (now table) (now nodes) × (u < sizesOf (now table) .tasks) ⌝ }
-    ensures { λ r. ⌜ stepped (stateOf (now (points .exit)) (now (values .exit)) (now (owners .exit)) (now («stop_nodes» .exit)) (now («stop_kinds» .exit))) r ≡ actOf (now (table .entry)) (now (schedule .entry)) (pointOf (pointsOf (now (table .entry))) (getD (now (points .entry)) u 0)) (stateOf (now (points .entry)) (now (values .entry)) (now (owners .entry)) (now («stop_nodes» .entry)) (now («stop_kinds» .entry))) u at ⌝ }
+    requires { ⌜ Loaded (now program) × (u < tasksIn (now program)) ⌝ }
+    ensures { λ r. ⌜ ((t : List ℤ) → Kept t (now (program .entry)) → stepped (stateOf (now (points .exit)) (now (values .exit)) (now (owners .exit)) (now («stop_nodes» .exit)) (now («stop_kinds» .exit))) r ≡ actOf t (now (schedule .entry)) (pointOf (pointsOf t) (getD (now (points .entry)) u 0)) (stateOf (now (points .entry)) (now (values .entry)) (now (owners .entry)) (now («stop_nodes» .entry)) (now («stop_kinds» .entry))) u at) ⌝ }
 {
-    let what = point_at(point_words(table), wide(points[u]));
+    let what = point_at(part(program, 4096, 1024), wide(points[u]));
     match what {
         Point::End => at,
         Point::Assign(v, e, q) => assign(
@@ -186,7 +184,7 @@ fn act<'a, 'b>(
             values,
             stop_nodes,
             stop_kinds,
-            nodes,
+            program,
             schedule,
             at,
             u,
@@ -199,7 +197,7 @@ fn act<'a, 'b>(
             &*values,
             stop_nodes,
             stop_kinds,
-            nodes,
+            program,
             schedule,
             at,
             u,
@@ -218,27 +216,25 @@ fn act<'a, 'b>(
     }
 }
 
-// The step of the task word at the position `at`, on the parts of a state; the nodes of the table are at hand. It gives the next position. With no
-// word left nothing changes.
+// The step of the task word at the position `at`, on the parts of a state. It gives the next position. With no word left nothing changes.
 pub(crate) fn advance<'a, 'b>(
     points: &'b mut [u16; 8],
     values: &'b mut [i32; 16],
     owners: &'b mut [i8; 8],
     stop_nodes: &'b mut [i16; 8],
     stop_kinds: &'b mut [u8; 8],
-    table: &'a [i32],
-    nodes: &'a [i32; 4096],
+    program: &'a [i32; 5121],
     schedule: &'a [i32],
     at: usize,
 ) -> usize
-    requires { ⌜ Passes (now table) × Kept (now table) (now nodes) ⌝ }
-    ensures { λ r. ⌜ stepped (stateOf (now (points .exit)) (now (values .exit)) (now (owners .exit)) (now («stop_nodes» .exit)) (now («stop_kinds» .exit))) r ≡ stepOf (now (table .entry)) (now (schedule .entry)) (stateOf (now (points .entry)) (now (values .entry)) (now (owners .entry)) (now («stop_nodes» .entry)) (now («stop_kinds» .entry))) at ⌝ }
+    requires { ⌜ Loaded (now program) ⌝ }
+    ensures { λ r. ⌜ ((t : List ℤ) → Kept t (now (program .entry)) → stepped (stateOf (now (points .exit)) (now (values .exit)) (now (owners .exit)) (now («stop_nodes» .exit)) (now («stop_kinds» .exit))) r ≡ stepOf t (now (schedule .entry)) (stateOf (now (points .entry)) (now (values .entry)) (now (owners .entry)) (now («stop_nodes» .entry)) (now («stop_kinds» .entry))) at) ⌝ }
 {
     if schedule.len() <= at {
         return at;
     }
     let u = number_at(schedule, at);
-    if !runs(table, &*stop_kinds, u) {
+    if !runs(program, &*stop_kinds, u) {
         return at + 1;
     }
     act(
@@ -247,8 +243,7 @@ pub(crate) fn advance<'a, 'b>(
         owners,
         stop_nodes,
         stop_kinds,
-        table,
-        nodes,
+        program,
         schedule,
         at + 1,
         u,
@@ -256,16 +251,15 @@ pub(crate) fn advance<'a, 'b>(
 }
 
 impl State {
-    // The step of the task word at the position `at`; the nodes of the table are at hand in an array. With no word left nothing changes.
+    // The step of the task word at the position `at`. With no word left nothing changes.
     pub(crate) fn step<'a>(
         self,
         at: usize,
-        table: &'a [i32],
-        nodes: &'a [i32; 4096],
+        program: &'a [i32; 5121],
         schedule: &'a [i32],
     ) -> Stepped
-        requires { ⌜ Passes (now table) × Kept (now table) (now nodes) ⌝ }
-        ensures { λ r. ⌜ r ≡ stepOf (now (table .entry)) (now (schedule .entry)) self at ⌝ }
+        requires { ⌜ Loaded (now program) ⌝ }
+        ensures { λ r. ⌜ ((t : List ℤ) → Kept t (now (program .entry)) → r ≡ stepOf t (now (schedule .entry)) self at) ⌝ }
     {
         let mut points = self.points;
         let mut values = self.values;
@@ -278,8 +272,7 @@ impl State {
             &mut owners,
             &mut stop_nodes,
             &mut stop_kinds,
-            table,
-            nodes,
+            program,
             schedule,
             at,
         );

@@ -20,9 +20,11 @@ use Rattle.table.specs.Decode.{pick, shapeBy, shapeOf}
 use Rattle.table.proofs.DecodeLaws.{number-back, kept-yes, kept-no}
 use Rattle.table.proofs.TreeLaws.{children-of}
 use Rattle.table.specs.Decode.{Leaf, kindOperation, kindComparison}
+use Rattle.run.specs.Codes.{nodesIn}
 use Rattle.run.proofs.CodeLaws.{error-of, value-of, truth-taken, failure-of, handed-code, handed-value, handed-truth}
-use Rattle.table.proofs.KindLaws.{node-shape, input-shape, negation-shape, choice-shape, not-shape, Operates, operation-shape}
+use Rattle.table.proofs.KindLaws.{input-shape, negation-shape, choice-shape, not-shape, Operates, operation-shape}
 use Rattle.table.proofs.KindLaws.{pick-below, leaf-low, leaf-high, comparison-shape, pairShape, pair-children, pair-shape, no-cond}
+use Rattle.run.proofs.KeptLaws.{read-shape}
 use Rattle.run.proofs.EvaluationLaws.{input-valued, negation-valued, binary-valued, binary-ended, choice-valued, choice-ended, bad-value}
 use Rattle.run.proofs.EvaluationLaws.{compare-told, compare-ended, pair-told, pair-ended, not-told, no-truth, bad-truth}
 use Rattle.run.proofs.evaluate.operand.Reads as operand
@@ -148,7 +150,7 @@ condition h l = (omega arith, child h l .1)
 module _ (t : ℕ) where
   operand-kind :
       (c : operand-lts.After-number (operand-calls t) (operand-at t) operand.Post) →
-      let a = c .before .before .args in numberAt (now (a .nodes)) (4 * a .n) ≡ c .number .result
+      let a = c .before .before .args in numberAt (now (a .program)) (4 * a .n) ≡ c .number .result
   operand-kind c = sym (number-back _ (c .before .number-arg .given) (c .number .ensures .0))
 
   value-shape :
@@ -157,16 +159,16 @@ module _ (t : ℕ) where
       let first = second .before .before in
       let kind = first .before .before in
       let a = kind .before .before .args in
-      let ns = now (a .nodes) in
+      let p = now (a .program) in
       let n = a .n in
-      shapeOf ns n ≡
-      shapeBy n (kind .number .result) (wordOf ns (4 * n + 1)) (wordOf ns (4 * n + 2)) (first .number2 .result) (second .number3 .result) (c .number4 .result)
+      shapeOf (nodesIn p) n ≡
+      shapeBy n (kind .number .result) (wordOf p (4 * n + 1)) (wordOf p (4 * n + 2)) (first .number2 .result) (second .number3 .result) (c .number4 .result)
   value-shape c =
       let second = c .before .before in
       let first = second .before .before in
       let kind = first .before .before in
       let start = kind .before .before in
-      node-shape (now (start .args .nodes)) (start .pre .1 .0) (start .args .n)
+      read-shape (now (start .args .program)) (start .pre .1 .0) (start .args .n) (start .pre .1 .1)
       (number-back _ (kind .before .number-arg .given) (kind .number .ensures .0))
       (number-back _ (first .before .number-arg2 .given) (first .number2 .ensures .0))
       (number-back _ (second .before .number-arg3 .given) (second .number3 .ensures .0))
@@ -177,15 +179,15 @@ module _ (t : ℕ) where
       let first = c .before .before in
       let kind = first .before .before in
       let a = kind .before .before .args in
-      let ns = now (a .nodes) in
+      let p = now (a .program) in
       let n = a .n in
-      shapeOf ns n ≡
-      shapeBy n (kind .number .result) (wordOf ns (4 * n + 1)) (wordOf ns (4 * n + 2)) (first .number2 .result) (c .number3 .result) (numberAt ns (4 * n + 3))
+      shapeOf (nodesIn p) n ≡
+      shapeBy n (kind .number .result) (wordOf p (4 * n + 1)) (wordOf p (4 * n + 2)) (first .number2 .result) (c .number3 .result) (numberAt p (4 * n + 3))
   verity-shape c =
       let first = c .before .before in
       let kind = first .before .before in
       let start = kind .before .before in
-      node-shape (now (start .args .nodes)) (start .pre .1 .0) (start .args .n)
+      read-shape (now (start .args .program)) (start .pre .1 .0) (start .args .n) (start .pre .1 .1)
       (number-back _ (kind .before .number-arg .given) (kind .number .ensures .0))
       (number-back _ (first .before .number-arg2 .given) (first .number2 .ensures .0))
       (number-back _ (c .before .number-arg3 .given) (c .number3 .ensures .0))
@@ -205,7 +207,7 @@ module _ (t : ℕ) where
       let second = third .before .before in
       let first = second .before .before in
       let a = first .before .before .before .before .args in
-      shapeOf (now (a .nodes)) (a .n) ≡ Choice (first .number2 .result) (second .number3 .result) (third .number4 .result)
+      shapeOf (nodesIn (now (a .program))) (a .n) ≡ Choice (first .number2 .result) (second .number3 .result) (third .number4 .result)
   value-choice c =
       let arm = c .before .before in
       value-shape (arm .before) ∙ choice-shape _ _ _ _ _ _ (arm .match .keys3) ∙ sym (kept-yes (rw (c .before .both-below .ensures) at (c .if2 .taken)))
@@ -221,7 +223,7 @@ module _ (t : ℕ) where
       let first = second .before .before in
       let kind = first .before .before in
       let a = kind .before .before .args in
-      shapeOf (now (a .nodes)) (a .n) ≡ Binary (kindOperation (kind .number .result)) (first .number2 .result) (second .number3 .result)
+      shapeOf (nodesIn (now (a .program))) (a .n) ≡ Binary (kindOperation (kind .number .result)) (first .number2 .result) (second .number3 .result)
   value-binary c =
       let arm = c .before .before in
       value-shape (arm .before) ∙ operation-shape _ _ _ _ _ _ _ (operates arm) ∙ sym (kept-yes (holds (c .before .both-below2 .ensures) (c .if7 .taken)))
@@ -230,7 +232,7 @@ module _ (t : ℕ) where
       (c : value-lts.After-number4 (value-calls t) (value-at t) value.Post) →
       let kind = c .before .before .before .before .before .before in
       let a = kind .before .before .args in
-      numberAt (now (a .nodes)) (4 * a .n) ≡ kind .number .result
+      numberAt (now (a .program)) (4 * a .n) ≡ kind .number .result
   value-kind c =
       let kind = c .before .before .before .before .before .before in
       sym (number-back _ (kind .before .number-arg .given) (kind .number .ensures .0))
@@ -248,7 +250,7 @@ module _ (t : ℕ) where
       let first = second .before .before in
       let kind = first .before .before in
       let a = kind .before .before .args in
-      shapeOf (now (a .nodes)) (a .n) ≡ Compare (kindComparison (kind .number .result)) (first .number2 .result) (second .number3 .result)
+      shapeOf (nodesIn (now (a .program))) (a .n) ≡ Compare (kindComparison (kind .number .result)) (first .number2 .result) (second .number3 .result)
   verity-compare c =
       let arm = c .before .before in
       verity-shape (arm .before .before .before) ∙ comparison-shape _ _ _ _ _ _ _ (arm .before .if2 .left) (arm .if3 .taken) ∙
@@ -260,7 +262,7 @@ module _ (t : ℕ) where
       let first = second .before .before in
       let kind = first .before .before in
       let a = kind .before .before .args in
-      shapeOf (now (a .nodes)) (a .n) ≡ pairShape (kind .number .result) (first .number2 .result) (second .number3 .result)
+      shapeOf (nodesIn (now (a .program))) (a .n) ≡ pairShape (kind .number .result) (first .number2 .result) (second .number3 .result)
   verity-pair c =
       let arm = c .before .before in
       verity-shape (arm .before .before .before .before) ∙ pair-shape _ _ _ _ _ _ _ (arm .before .if3 .left) (arm .if6 .taken) ∙

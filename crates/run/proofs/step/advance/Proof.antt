@@ -13,31 +13,31 @@ abbrev before : tie.Start → State
 before c = stateOf (now (c .args .points)) (now (c .args .values)) (now (c .args .owners)) (now (c .args .stop-nodes)) (now (c .args .stop-kinds))
 
 no-turn-now : tie.Need-returns-2
-no-turn-now c =
+no-turn-now c t k =
     let runs = c .before in
     let n = runs .before .before in
-    no-turn _ _ _ _ (n .before .if1 .left) (n .number-at .ensures .0) (runs .runs .ensures) (c .if2 .taken) refl
+    no-turn _ _ _ _ k (n .before .if1 .left) (n .number-at .ensures .0) (runs .runs .ensures) (c .if2 .taken) refl
 
 act-requires : tie.Need-act-requires
 act-requires c κs =
     let goes = c .before .before .before .before .before in
     let start = goes .before .before .before .before .before in
-    (start .pre .0, start .pre .1, goes-on (now (start .args .table)) (before start) _ (goes .before .runs .ensures) (goes .if2 .left))
+    (start .pre, goes-on (now (start .args .program)) (before start) _ (goes .before .runs .ensures) (goes .if2 .left))
 
 acts : tie.Need-returns-3
-acts c =
+acts c t k =
     let goes = c .before .before .before .before .before .before in
     let runs = goes .before in
     let n = runs .before .before in
-    turn _ _ _ _ (n .before .if1 .left) (n .number-at .ensures .0) (runs .runs .ensures) (goes .if2 .left) (c .act .ensures)
+    turn _ _ _ _ k (n .before .if1 .left) (n .number-at .ensures .0) (runs .runs .ensures) (goes .if2 .left) (c .act .ensures t k)
 
 pub advance-spec : {M : Type 1} → statement M
 advance-spec =
     tie.close
     (tie.spec
-    (λ c. no-word _ _ _ _ (c .if1 .taken) refl)
+    (λ c t k. no-word _ _ _ _ (c .if1 .taken) refl)
     (λ c κs. search needs)
-    (λ c κs. let start = c .before .before .before in start .pre .0 .tasks .high)
+    (λ c κs. let loaded = c .before .before .before .pre in rw (loaded .kept .tasks) (loaded .passes .tasks .high))
     (λ c. search needs)
     no-turn-now
     (λ c. search needs)
