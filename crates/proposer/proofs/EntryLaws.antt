@@ -32,7 +32,7 @@ use Rattle.proposer.proofs.CodeLaws.{pair-left, pair-right, pair-below}
 use Rattle.proposer.proofs.PassLaws.{Inv, row-sized, written-below, slot-below}
 
 -- a point that files under c writes the variable of c
-files-code : (t : List ℤ) (x : Point) (u s c : ℕ) → filesBy t x u s c ≡ true → codeOf t u s (writtenTo x) ≡ c
+pub files-code : (t : List ℤ) (x : Point) (u s c : ℕ) → filesBy t x u s c ≡ true → codeOf t u s (writtenTo x) ≡ c
 unfolding filesBy writtenTo
 files-code t End u s c e = clash (sym e)
 files-code t (Assign v y q) u s c e = eqb-true _ _ e

@@ -15,6 +15,5 @@ pub mod RuleLaws
 pub mod WalkLaws
 pub mod WalkMeaning
 pub mod Whole
-pub mod ArrayLaws
 pub mod Laws
 pub mod ShownLaws

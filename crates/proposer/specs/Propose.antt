@@ -5,7 +5,7 @@ use mathlib.Core.Bool.{Bool, true, false, _&&_}
 use mathlib.Core.List.{List, [], _∷_, _++_, map}
 use lib.Dec.{leb, ltb}
 use lib.IntN.{ℤ, pos, negsuc}
-use lib.ListN.{length, drop, getD}
+use lib.ListN.{length, getD}
 use lib.Signed.{ltZ}
 use Rattle.words.specs.declared.Found.{Found}
 use Rattle.words.specs.declared.Found.the-variants.{Nothing, At}
@@ -13,12 +13,13 @@ use Rattle.words.specs.declared.Stage.{Stage}
 use Rattle.words.specs.declared.Stage.the-variants.{Passed, Broken}
 use Rattle.words.specs.Words.{wordOf}
 use Rattle.words.specs.First.{unless, firstBad}
-use Rattle.words.specs.Stages.{refuse, andThen}
+use Rattle.words.specs.Stages.{refuse, andThen, bufferBy}
 use Rattle.words.specs.Tabulate.{tabulate}
 use Rattle.table.specs.Layout.{sizesOf}
 use Rattle.table.specs.Validate.{validateOf}
 use Rattle.analysis.specs.Rows.{Row}
 use Rattle.analysis.specs.Rows.{Maybe, none, some}
+use Rattle.proposer.specs.declared.Proposed.{Proposed}
 use Rattle.proposer.specs.Fold.{concatBelow, those}
 use Rattle.proposer.specs.Walk.{setsOf, heldAt, rule18}
 use Rattle.proposer.specs.Widen.{placeIn}
@@ -106,21 +107,12 @@ madeFor t ts = madeOf t ts (heldAt t)
 unfoldable pub proposedOf : List ℤ → List ℤ → List ℤ
 proposedOf t ts = wordsOf t (heldAt t) (madeFor t ts .state)
 
-pub record Proposed : Type 0 where
-  pub stage : Stage
-  pub words : ℕ
-  pub passes : ℕ
-
 unfoldable pub proposeBy : Stage → List ℤ → ℕ → Proposed
 proposeBy Passed ws n = record { stage = Passed; words = length ws; passes = n }
 proposeBy (Broken rule place) ws n = record { stage = Broken rule place; words = 0; passes = 0 }
 
 unfoldable pub proposeOf : List ℤ → List ℤ → ℕ → Proposed
 proposeOf t ts room = proposeBy (proposeStage t ts room) (proposedOf t ts) (madeFor t ts .passes)
-
-unfoldable pub bufferBy : Stage → List ℤ → List ℤ → List ℤ
-bufferBy Passed ws buffer = ws ++ drop (length ws) buffer
-bufferBy (Broken rule place) ws buffer = buffer
 
 unfoldable pub bufferOf : List ℤ → List ℤ → List ℤ → List ℤ
 bufferOf t ts buffer = bufferBy (proposeStage t ts (length buffer)) (proposedOf t ts) buffer

@@ -1,4 +1,4 @@
--- What a run answers and leaves in its slice, from what `run` gave: at each `return`.
+-- What a run answers and leaves in its slice, from what `run` gave, and what a proposer answers: at each `return`.
 -- Assumes nothing.
 use Prim.Native.Nat.{ℕ, _<_, _≤_}
 use mathlib.Core.Path.{_≡_, refl, sym, ap, _∙_}
@@ -8,14 +8,16 @@ use lib.IntN.{ℤ}
 use lib.ListN.{length, drop}
 use Rattle.words.specs.declared.Stage.the-variants.{Passed, Broken}
 use Rattle.words.specs.First.{unless}
-use Rattle.words.specs.Stages.{refuse, andThen, stageNumbers, bufferBy}
+use Rattle.words.specs.Stages.{refuse, andThen, numbersBy, stageNumbers, bufferBy}
 use Rattle.words.proofs.FillLaws.{length-tabulate}
 use Rattle.table.specs.Validate.{validateOf}
 use Rattle.run.specs.declared.Played.{Played}
 use Rattle.run.specs.Run.{lastOf, runOf}
 use Rattle.run.proofs.RunLaws.{run-stage, run-last}
+use Rattle.proposer.specs.declared.Proposed.{Proposed}
 use Rattle.rangecheck_c.specs.declared.RangecheckAnswer.{RangecheckAnswer}
-use Rattle.rangecheck_c.specs.Answer.{answerOf, ranStage}
+use Rattle.rangecheck_c.specs.declared.RangecheckProposed.{RangecheckProposed}
+use Rattle.rangecheck_c.specs.Answer.{answerOf, ranStage, proposedBy}
 use Rattle.rangecheck_c.specs.Slots.{slotOf, slotsOf, sliceOf}
 
 module _ (t ws d : List ℤ) {p : Played} (is : p ≡ runOf t ws) where
@@ -50,3 +52,14 @@ module _ (t ws d : List ℤ) {p : Played} (is : p ≡ runOf t ws) where
   laid e l h q =
       let ok = sym validated ∙ e in
       rw (room-passed ok l) (h, q ∙ rw (is, run-last t ws ok, length-tabulate (slotOf (lastOf t ws)) 48))
+
+-- ---- what a proposer answers
+pub proposal-told : {p q : Proposed} {r : RangecheckProposed} → p ≡ q → p .stage ≡ Passed
+    → r ≡ record { number = 0; place = 0; words = p .words; passes = p .passes } → r ≡ proposedBy q
+unfolding numbersBy
+proposal-told is e h = rw (← is, e) h
+
+pub refusal-told : {p q : Proposed} {r : RangecheckProposed} {rule place : ℕ} → p ≡ q → p .stage ≡ Broken rule place
+    → r ≡ record { number = rule; place = place; words = p .words; passes = p .passes } → r ≡ proposedBy q
+unfolding numbersBy
+refusal-told is e h = rw (← is, e) h

@@ -1,7 +1,9 @@
-// The check and the run for C and Rust to link: thin functions over `checker::check::check` and `run::play::run`.
+// The check, the run and the proposer for C and Rust to link: thin functions over `checker::check::check`, `run::play::run` and
+// `iterator::propose::propose`.
 use crate::slots::lay;
 use checker::Verdict;
 use checker::check::check;
+use iterator::propose::propose;
 use run::play::run;
 use words::Stage;
 ghost use mathlib.Core.Path.{_≡_};
@@ -9,7 +11,8 @@ ghost use lib.ListN.{length};
 ghost use Rattle.words.specs.declared.Stage.the-variants.{Passed, Broken};
 ghost use Rattle.words.specs.Stages.{numbersBy, stageNumbers};
 ghost use Rattle.checker.specs.Check.{checkNumbers, bufferOf};
-ghost use Rattle.rangecheck_c.specs.Answer.{answerOf, ranStage};
+ghost use Rattle.proposer.specs.Propose.{proposeOf, bufferOf as proposalOf};
+ghost use Rattle.rangecheck_c.specs.Answer.{answerOf, ranStage, proposedBy};
 ghost use Rattle.rangecheck_c.specs.Slots.{sliceOf};
 
 mod slots;
@@ -20,6 +23,15 @@ pub struct RangecheckAnswer {
     pub number: u32,
     pub place: u64,
     pub count: u64,
+}
+
+// The number of the refusal or 0, its place, the words that were written and the passes that were made; 0 for what isn't given.
+#[repr(C)]
+pub struct RangecheckProposed {
+    pub number: u32,
+    pub place: u64,
+    pub words: u64,
+    pub passes: u64,
 }
 
 fn accepted(count: usize) -> RangecheckAnswer
@@ -39,6 +51,17 @@ fn refused(rule: u32, place: usize) -> RangecheckAnswer
         number: rule,
         place: place as u64,
         count: 0,
+    }
+}
+
+fn proposed(number: u32, place: usize, words: usize, passes: usize) -> RangecheckProposed
+    ensures { λ r. ⌜ r ≡ record { number = number; place = place; words = words; passes = passes } ⌝ }
+{
+    RangecheckProposed {
+        number: number,
+        place: place as u64,
+        words: words as u64,
+        passes: passes as u64,
     }
 }
 
@@ -79,4 +102,22 @@ pub extern "C" fn rangecheck_run<'a, 'b>(
     }
     lay(played.state, answer);
     accepted(0)
+}
+
+// The proposer. The proposal stands at the buffer's front; a refusal leaves the buffer as it came: one of the table's, or 19, 20 or 18.
+#[no_mangle]
+pub extern "C" fn rangecheck_propose<'a, 'b>(
+    table: &'a [i32],
+    thresholds: &'a [i32],
+    proposal: &'b mut [i32],
+) -> RangecheckProposed
+    ensures { λ r. ⌜ r ≡ proposedBy (proposeOf (now (table .entry)) (now (thresholds .entry)) (length (now (proposal .entry)))) ⌝ }
+    ensures { λ r. ⌜ now (proposal .exit) ≡ proposalOf (now (table .entry)) (now (thresholds .entry)) (now (proposal .entry)) ⌝ }
+{
+    let made = propose(table, thresholds, proposal);
+    let stage = made.stage;
+    match stage {
+        Stage::Passed => proposed(0, 0, made.words, made.passes),
+        Stage::Broken(rule, place) => proposed(rule, place, made.words, made.passes),
+    }
 }

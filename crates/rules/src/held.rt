@@ -34,7 +34,7 @@ pub(crate) fn without(s: usize, m: usize) -> usize
 }
 
 // Whether no mutex is in both: one mask of the eight that a table can have.
-pub(crate) fn disjoint(s: usize, r: usize) -> bool
+pub fn disjoint(s: usize, r: usize) -> bool
     ensures { λ b. ⌜ b ≡ disjointOf s r ⌝ }
 {
     (s % 256) & r == 0

@@ -4,7 +4,7 @@ use words::Found;
 mod disturb;
 mod entry;
 pub mod examine;
-mod held;
+pub mod held;
 mod order;
 mod point;
 mod points;
