@@ -2,9 +2,10 @@
 
 mod proposal;
 
-pub use proposal::{Entry, Proposal};
+pub use proposal::{encode, length, Entry, Proposal};
 
-use crate::analysis::{arithmetic, split, Ends, Raised, Row, Side};
+use crate::analysis::{Ends, Raised};
+use crate::outcome::{Outcome, Outcomes};
 use crate::table::{Point, Table};
 use crate::words::Refusal;
 
@@ -90,60 +91,29 @@ struct Pass<'a> {
 
 impl Pass<'_> {
     fn point(&mut self, table: &Table, task: u8, at: usize, held: u8) -> Result<(), Refusal> {
-        let ends = self.proposal.row(at);
-        match table.points[at] {
-            Point::End => {}
-            Point::Assign { variable, node, next } => {
-                let mut row = ends.row();
-                if let Some(written) = arithmetic(&table.nodes, node, &row, &mut self.raised) {
-                    let entry = self.proposal.entry((task, held, variable));
-                    if !entry.is_some_and(|entry| written.within(entry)) {
+        let proposal = self.proposal;
+        let row = proposal.row(at).row();
+        let rest = |mutex| proposal.rest(mutex);
+        let outcomes = Outcomes::of(table, at, held, row, rest, &mut self.raised);
+        for Outcome { next, held, row } in outcomes.iter() {
+            if proposal.held[next] != i32::from(held) {
+                return Err((12, at));
+            }
+            if !row.within(proposal.row(next)) {
+                self.flow.get_or_insert((13, at));
+            }
+            match table.points[at] {
+                Point::Assign { variable, .. } => {
+                    let entry = proposal.entry((task, held, variable));
+                    if !entry.is_some_and(|entry| row.get(variable).within(entry)) {
                         self.write.get_or_insert((14, at));
                     }
-                    row.set(variable, written);
-                    self.outcome(at, next, held, &row)?;
                 }
-            }
-            Point::Test { condition, yes, no } => {
-                let row = ends.row();
-                let (mut true_row, mut false_row) = (Side::Whole, Side::Whole);
-                let rows = (&mut true_row, &mut false_row);
-                split(&table.nodes, condition, &row, rows.0, rows.1, &mut self.raised);
-                for (side, next) in [(&true_row, yes), (&false_row, no)] {
-                    if let Some(row) = side.row(&row) {
-                        self.outcome(at, next, held, row)?;
-                    }
+                Point::Unlock { mutex, .. } if !row.within(proposal.rest(usize::from(mutex))) => {
+                    self.rest.get_or_insert((16, at));
                 }
+                _ => {}
             }
-            Point::Lock { mutex, next } => {
-                let with = held | 1 << mutex;
-                let mut row = ends.row();
-                if with != held && row.meet(self.proposal.rest(usize::from(mutex))) {
-                    self.outcome(at, next, with, &row)?;
-                }
-            }
-            Point::Unlock { mutex, next } => {
-                let without = held & !(1 << mutex);
-                if without != held {
-                    let row = ends.row();
-                    if !row.within(self.proposal.rest(usize::from(mutex))) {
-                        self.rest.get_or_insert((16, at));
-                    }
-                    self.outcome(at, next, without, &row)?;
-                }
-            }
-        }
-        Ok(())
-    }
-
-    #[inline]
-    fn outcome(&mut self, at: usize, next: u16, held: u8, row: &Row) -> Result<(), Refusal> {
-        let next = usize::from(next);
-        if self.proposal.held[next] != i32::from(held) {
-            return Err((12, at));
-        }
-        if !row.within(self.proposal.row(next)) {
-            self.flow.get_or_insert((13, at));
         }
         Ok(())
     }

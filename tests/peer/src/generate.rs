@@ -1,7 +1,8 @@
 //! Cases for tests and benchmarks, made from a seed alone: valid tables with
 //! proposals that fit, the same with one thing nudged, damaged ones, buffers
-//! around the needed length, and schedules.
+//! around the needed length, schedules, and asks of a proposer.
 
+mod ask;
 pub mod changes;
 mod draft;
 mod random;
@@ -9,6 +10,7 @@ mod settle;
 mod tables;
 mod trees;
 
+pub use ask::{ask, Ask};
 pub use draft::Draft;
 pub use random::Random;
 pub use tables::table;

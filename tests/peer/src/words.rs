@@ -2,6 +2,7 @@
 //! of numbers, and the printing program's reading and writing.
 
 use crate::check::{check, Verdict};
+use crate::propose::Proposed;
 
 /// A refusal's number and place.
 pub type Refusal = (u32, usize);
@@ -25,6 +26,19 @@ pub fn trade(rule: u32) -> &'static str {
 /// Numbers apart by blanks; `None` if one is no word.
 pub fn parse(text: &str) -> Option<Vec<i32>> {
     text.split_whitespace().map(|number| number.parse().ok()).collect()
+}
+
+/// Words as numbers apart by blanks.
+pub fn shown(words: &[i32]) -> String {
+    words.iter().map(i32::to_string).collect::<Vec<_>>().join(" ")
+}
+
+/// An answer of the proposer, as the vectors have it.
+pub fn proposed(answer: &Result<Proposed, Refusal>) -> String {
+    match answer {
+        Ok(Proposed { words, passes }) => format!("words {} passes {passes}", shown(words)),
+        Err((rule, place)) => format!("refused {rule} at {place}"),
+    }
 }
 
 /// The lines that the printing program gives for a verdict.

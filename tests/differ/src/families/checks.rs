@@ -148,7 +148,7 @@ pub fn drawn(seed: u64, tables: usize) -> Vec<Check> {
 fn draw_around_one_table(random: &mut Random, cases: &mut Vec<Check>) {
     let mut table = table(random);
     for _ in 0..random.below(3) {
-        draw::retarget(random, &mut table);
+        changes::retarget(random, &mut table);
     }
     let decoded = Table::decode(&table).expect("generated tables are valid");
     let mut draft = Draft::settle(&decoded, random);

@@ -44,24 +44,6 @@ pub fn damaged(random: &mut Random, words: &[i32]) -> Vec<i32> {
     words
 }
 
-/// Lets a point of a valid table go on to any point of its task, where it may
-/// arrive with another held set than others do.
-pub fn retarget(random: &mut Random, words: &mut [i32]) {
-    let [tasks, variables] = [0, 1].map(|at| words[at] as usize);
-    let task = random.below(tasks);
-    let first: i32 = words[5..5 + task].iter().sum();
-    let share = words[5 + task] as usize;
-    let own = |random: &mut Random| first + random.below(share) as i32;
-    let point = 5 + tasks + variables + 4 * own(random) as usize;
-    let field = match words[point] {
-        0 => return,
-        1 => 3,
-        2 => random.between(2, 3),
-        _ => 2,
-    };
-    words[point + field] = own(random);
-}
-
 /// A proposal of the right length with an end moved by one, or another held
 /// word, or an entry left out.
 pub fn nudged(random: &mut Random, proposal: &[i32]) -> Vec<i32> {

@@ -2,7 +2,7 @@
 //! the printing program prints of them, joined by `;`, apart by `|`.
 
 use peer::generate::{case, Random};
-use peer::words::{lines, ALARM_WORDS};
+use peer::words::{lines, shown, ALARM_WORDS};
 use std::io::Write;
 
 fn main() -> std::io::Result<()> {
@@ -16,11 +16,7 @@ fn main() -> std::io::Result<()> {
         let mut alarms = [0; ALARM_WORDS];
         let verdict = peer::check(&case.table, &case.proposal, &mut alarms);
         let said = lines(verdict, &alarms).join(";");
-        writeln!(out, "{} | {} | {said}", text(&case.table), text(&case.proposal))?;
+        writeln!(out, "{} | {} | {said}", shown(&case.table), shown(&case.proposal))?;
     }
     Ok(())
-}
-
-fn text(words: &[i32]) -> String {
-    words.iter().map(i32::to_string).collect::<Vec<_>>().join(" ")
 }

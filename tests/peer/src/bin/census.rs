@@ -1,8 +1,8 @@
 //! What the generator reaches: `census CASES SEED` counts verdicts, alarms and
-//! stops.
+//! stops of so many cases, and what a proposer says to as many asks.
 
-use peer::generate::{case, Random};
-use peer::words::trade;
+use peer::generate::{ask, case, Random};
+use peer::words::{trade, ALARM_WORDS};
 use peer::Verdict;
 
 fn main() {
@@ -60,4 +60,34 @@ fn main() {
     println!("accepted: {accepted}, of these with alarms: {alarming}");
     println!("alarms: overflow {}, zero {}", alarms[0], alarms[1]);
     println!("runs played: {played}, stops: overflow {}, zero {}", stops[0], stops[1]);
+    proposals(cases, seed);
+}
+
+/// The proposer's answers, and how far its proposals go.
+fn proposals(asks: u64, seed: u64) {
+    let mut random = Random::new(seed);
+    let mut refused = [0; 21];
+    let (mut made, mut taken, mut unreached, mut passes, mut most) = (0, 0, 0, 0, 0);
+    for _ in 0..asks {
+        let ask = ask(&mut random);
+        match peer::propose(&ask.table, &ask.thresholds, ask.room) {
+            Ok(proposed) => {
+                made += 1;
+                let verdict = peer::check(&ask.table, &proposed.words, &mut [0; ALARM_WORDS]);
+                taken += usize::from(matches!(verdict, Verdict::Accepted { .. }));
+                let points = proposed.words[0] as usize;
+                unreached += usize::from(proposed.words[4..4 + points].contains(&-1));
+                passes += proposed.passes;
+                most = most.max(proposed.passes);
+            }
+            Err((rule, _)) => refused[rule as usize] += 1,
+        }
+    }
+    let of_tables: usize = refused[1..=6].iter().sum();
+    println!("asks of a proposer: {asks}, refused for the table: {of_tables}");
+    for (rule, count) in refused.iter().enumerate().skip(18) {
+        println!("refused {rule}: {count}");
+    }
+    println!("proposed: {made}, of these accepted: {taken}, with an unreached point: {unreached}");
+    println!("passes: {passes}, at most {most} for one");
 }

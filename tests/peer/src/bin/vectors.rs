@@ -1,56 +1,66 @@
-//! Runs the shared vectors: `vectors CHECK_FILE RUN_FILE`. Each line has three
-//! parts apart by `|`: two of words, and the answer.
+//! Runs given vectors: `vectors KIND FILE ..`, where a kind is check, run or
+//! propose. The parts of a line are apart by `|`, the last of them the answer.
 
-use peer::words::{lines, parse, ALARM_WORDS};
+use peer::words::{lines, parse, proposed, shown, ALARM_WORDS};
 use std::process::ExitCode;
 
 fn main() -> ExitCode {
     let arguments: Vec<String> = std::env::args().skip(1).collect();
-    let [checks, runs] = &arguments[..] else {
-        eprintln!("usage: vectors CHECK_FILE RUN_FILE");
+    let pairs = arguments.chunks_exact(2);
+    if arguments.is_empty() || !pairs.remainder().is_empty() {
+        eprintln!("usage: vectors KIND FILE ..");
         return ExitCode::FAILURE;
-    };
-    let wrong = compare("check", checks, checked) + compare("run", runs, played);
-    if wrong == 0 {
-        ExitCode::SUCCESS
-    } else {
-        ExitCode::FAILURE
     }
+    let wrong: usize = pairs.map(|pair| compare(&pair[0], &pair[1])).sum();
+    ExitCode::from(u8::from(wrong > 0))
 }
 
-fn checked(table: &[i32], proposal: &[i32]) -> String {
+/// Of the parts before the answer, if there are as many as the kind has.
+type Answer = fn(&[Vec<i32>]) -> Option<String>;
+
+fn checked(parts: &[Vec<i32>]) -> Option<String> {
+    let [table, proposal] = parts else { return None };
     let mut alarms = [0; ALARM_WORDS];
     let verdict = peer::check(table, proposal, &mut alarms);
-    lines(verdict, &alarms).join(";")
+    Some(lines(verdict, &alarms).join(";"))
 }
 
-fn played(table: &[i32], schedule: &[i32]) -> String {
-    match peer::run(table, schedule) {
-        Ok(state) => {
-            let words: Vec<String> = state.words().iter().map(i32::to_string).collect();
-            words.join(" ")
-        }
+fn played(parts: &[Vec<i32>]) -> Option<String> {
+    let [table, schedule] = parts else { return None };
+    Some(match peer::run(table, schedule) {
+        Ok(state) => shown(&state.words()),
         Err((rule, place)) => format!("refused {rule} at {place}"),
-    }
+    })
+}
+
+fn propose(parts: &[Vec<i32>]) -> Option<String> {
+    let [table, thresholds, room] = parts else { return None };
+    let &[room] = &room[..] else { return None };
+    Some(proposed(&peer::propose(table, thresholds, usize::try_from(room).ok()?)))
 }
 
 /// Says which lines differ and gives their number.
-fn compare(what: &str, path: &str, answer: fn(&[i32], &[i32]) -> String) -> usize {
+fn compare(kind: &str, path: &str) -> usize {
+    let answer: Answer = match kind {
+        "check" => checked,
+        "run" => played,
+        "propose" => propose,
+        _ => panic!("{kind} is no kind: check, run or propose"),
+    };
     let text = std::fs::read_to_string(path).unwrap_or_else(|error| panic!("{path}: {error}"));
     let (mut seen, mut wrong) = (0, 0);
-    for (number, line) in text.lines().enumerate() {
-        let parts: Vec<&str> = line.split('|').map(str::trim).collect();
-        let [first, second, expected] = parts[..] else {
-            panic!("{path}: line {} has not three parts", number + 1);
-        };
-        let words = |text| parse(text).unwrap_or_else(|| panic!("{path}: line {}", number + 1));
-        let given = answer(&words(first), &words(second));
+    for (number, line) in (1..).zip(text.lines()) {
+        let mut parts: Vec<&str> = line.split('|').map(str::trim).collect();
+        let expected = parts.pop().expect("a line has a part");
+        let words: Option<Vec<Vec<i32>>> = parts.into_iter().map(parse).collect();
+        let given = words.and_then(|words| answer(&words));
+        let given = given.unwrap_or_else(|| panic!("{path}: line {number} is no {kind}"));
         seen += 1;
         if given != expected {
             wrong += 1;
-            println!("{what} line {}: {given}, expected {expected}", number + 1);
+            println!("{kind} line {number}: {given}, expected {expected}");
         }
     }
-    println!("{what}: {seen} lines, {wrong} mismatches");
+    println!("{kind}: {seen} lines, {wrong} mismatches");
     wrong
 }

@@ -1,7 +1,7 @@
 //! A proposal in its own words: rows stay where they lie, only the entries are
 //! decoded, since each of them is read again for every point.
 
-use crate::analysis::Ends;
+use crate::analysis::{Ends, Row};
 use crate::interval::Interval;
 use crate::table::Table;
 use crate::words::Refusal;
@@ -24,6 +24,32 @@ impl Entry {
     pub fn head(&self) -> (u8, u8, u8) {
         (self.task, self.set, self.variable)
     }
+}
+
+/// The words of a proposal for `table` with so many entries: four sizes, a held
+/// word a point, three words a head, and a low and a high end for each variable
+/// of each row and for each entry.
+pub fn length(table: &Table, entries: usize) -> usize {
+    let points = table.points.len();
+    let rows = points + table.mutexes;
+    4 + points + 3 * entries + 2 * (rows * table.variables + entries)
+}
+
+/// The words of a proposal. The rows are those of all points and then of all
+/// mutexes, and the entries rise by head.
+pub fn encode(variables: usize, held: &[i32], rows: &[Row], entries: &[Entry]) -> Vec<i32> {
+    let sizes = [held.len(), variables, rows.len() - held.len(), entries.len()];
+    let mut words: Vec<i32> = sizes.iter().map(|&size| size as i32).collect();
+    words.extend(held);
+    words.extend(entries.iter().flat_map(|entry| {
+        let (task, set, variable) = entry.head();
+        [task, set, variable].map(i32::from)
+    }));
+    words.extend(rows.iter().flat_map(|row| &row.ends().lows[..variables]));
+    words.extend(entries.iter().map(|entry| entry.interval.low()));
+    words.extend(rows.iter().flat_map(|row| &row.ends().highs[..variables]));
+    words.extend(entries.iter().map(|entry| entry.interval.high()));
+    words
 }
 
 #[derive(Debug)]
@@ -51,11 +77,11 @@ impl<'a> Proposal<'a> {
             return Err((8, 3));
         }
         let [points, variables, mutexes, entries] = sizes.map(|size| size as usize);
-        let rows = (points + mutexes) * variables;
-        let ends = rows + entries;
-        if words.len() != 4 + points + 3 * entries + 2 * ends {
+        if words.len() != length(table, entries) {
             return Err(reach);
         }
+        let rows = (points + mutexes) * variables;
+        let ends = rows + entries;
         let (held, rest) = words[4..].split_at(points);
         let (heads, rest) = rest.split_at(3 * entries);
         let (lows, highs) = rest.split_at(ends);

@@ -2,7 +2,7 @@
 //! against a slow one that goes rule by rule as the document's table does.
 
 use super::*;
-use crate::analysis::{narrow, Silent};
+use crate::analysis::{arithmetic, narrow, Row, Silent};
 use crate::generate::{case, Random};
 use crate::words::parse;
 

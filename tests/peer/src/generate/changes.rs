@@ -1,5 +1,5 @@
-//! Changes to what fits: one word nudged, one thing of a draft moved, or parts
-//! damaged beyond use.
+//! Changes to what fits: one word nudged, one target or one thing of a draft
+//! moved, or parts damaged beyond use.
 
 use super::{draft, Draft, Random};
 use crate::interval::Interval;
@@ -42,6 +42,24 @@ pub fn nudge_table(random: &mut Random, words: &mut [i32]) {
         }
     }
     nudge_part(random, words, &lengths[..5]);
+}
+
+/// Lets a point of a valid table go on to any point of its task, where it may
+/// arrive with another held set than others do.
+pub fn retarget(random: &mut Random, words: &mut [i32]) {
+    let [tasks, variables] = [0, 1].map(|at| words[at] as usize);
+    let task = random.below(tasks);
+    let first: i32 = words[5..5 + task].iter().sum();
+    let share = words[5 + task] as usize;
+    let own = |random: &mut Random| first + random.below(share) as i32;
+    let point = 5 + tasks + variables + 4 * own(random) as usize;
+    let field = match words[point] {
+        0 => return,
+        1 => 3,
+        2 => random.between(2, 3),
+        _ => 2,
+    };
+    words[point + field] = own(random);
 }
 
 /// Nudges one word of a valid proposal.

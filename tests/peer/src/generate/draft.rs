@@ -3,6 +3,7 @@
 use super::settle::{Flaw, Growth};
 use super::Random;
 use crate::analysis::Row;
+use crate::check::{encode, Entry};
 use crate::interval::Interval;
 use crate::table::Table;
 use std::collections::BTreeMap;
@@ -102,19 +103,14 @@ impl Draft {
     }
 
     pub fn words(&self) -> Vec<i32> {
-        let points = self.held.len();
-        let mutexes = self.rows.len() - points;
-        let sizes = [points, self.variables, mutexes, self.entries.len()];
-        let mut words: Vec<i32> = sizes.iter().map(|&size| size as i32).collect();
-        words.extend(&self.held);
-        for &(task, set, variable) in self.entries.keys() {
-            words.extend([task, set, variable].map(i32::from));
-        }
-        words.extend(self.rows.iter().flat_map(|row| &row.ends().lows[..self.variables]));
-        words.extend(self.entries.values().map(|interval| interval.low()));
-        words.extend(self.rows.iter().flat_map(|row| &row.ends().highs[..self.variables]));
-        words.extend(self.entries.values().map(|interval| interval.high()));
-        words
+        let entry = |(&(task, set, variable), &interval): (&Head, &Interval)| Entry {
+            task,
+            set,
+            variable,
+            interval,
+        };
+        let entries: Vec<Entry> = self.entries.iter().map(entry).collect();
+        encode(self.variables, &self.held, &self.rows, &entries)
     }
 }
 

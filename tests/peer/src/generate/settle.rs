@@ -2,8 +2,9 @@
 
 use super::draft::{Draft, Head};
 use super::Random;
-use crate::analysis::{arithmetic, narrow, Row, Silent};
+use crate::analysis::{Row, Silent};
 use crate::interval::Interval;
+use crate::outcome::{Outcome, Outcomes};
 use crate::table::{Point, Table};
 
 /// Where an end may come to rest after it is widened; its negative, less one,
@@ -91,50 +92,35 @@ impl Growth<'_> {
     /// Lets the outcomes of one reached point flow on.
     fn point(&mut self, task: u8, at: usize, held: u8) -> bool {
         let table = self.table;
-        let mut row = self.draft.rows[at];
-        match table.points[at] {
-            Point::End => false,
-            Point::Assign { variable, node, next } => {
-                let Some(written) = arithmetic(&table.nodes, node, &row, &mut Silent) else {
-                    return false;
-                };
-                let more = match self.flaw {
-                    Some(Flaw::Write(point)) if point == at => false,
-                    Some(Flaw::Release(point, mutex)) if point == at => {
-                        self.enter((task, held | 1 << mutex, variable), written)
+        let row = self.draft.rows[at];
+        let rest_of = |mutex: usize| table.points.len() + mutex;
+        let rest = |mutex| self.draft.rows[rest_of(mutex)].ends();
+        let mut changed = false;
+        let outcomes = Outcomes::of(table, at, held, row, rest, &mut Silent);
+        for Outcome { next, held, row } in outcomes.iter() {
+            changed |= self.flow(at, next, held, row);
+            changed |= match table.points[at] {
+                Point::Assign { variable, .. } => {
+                    let written = row.get(variable);
+                    match self.flaw {
+                        Some(Flaw::Write(point)) if point == at => false,
+                        Some(Flaw::Release(point, mutex)) if point == at => {
+                            self.enter((task, held | 1 << mutex, variable), written)
+                        }
+                        _ => self.enter((task, held, variable), written),
                     }
-                    _ => self.enter((task, held, variable), written),
-                };
-                row.set(variable, written);
-                self.flow(at, next, held, &row) | more
-            }
-            Point::Test { condition, yes, no } => {
-                let mut side = |wanted, next| {
-                    let mut row = row;
-                    narrow(&table.nodes, condition, wanted, &mut row)
-                        && self.flow(at, next, held, &row)
-                };
-                side(true, yes) | side(false, no)
-            }
-            Point::Lock { mutex, next } => {
-                let with = held | 1 << mutex;
-                let rest = self.draft.rows[table.points.len() + usize::from(mutex)];
-                with != held && row.meet(rest.ends()) && self.flow(at, next, with, &row)
-            }
-            Point::Unlock { mutex, next } => {
-                let without = held & !(1 << mutex);
-                if without == held {
-                    return false;
                 }
-                let rest = table.points.len() + usize::from(mutex);
-                let more = self.flaw != Some(Flaw::Unlock(mutex)) && self.grow_row(rest, &row);
-                self.flow(at, next, without, &row) | more
-            }
+                Point::Unlock { mutex, .. } => {
+                    self.flaw != Some(Flaw::Unlock(mutex))
+                        && self.grow_row(rest_of(usize::from(mutex)), row)
+                }
+                _ => false,
+            };
         }
+        changed
     }
 
-    fn flow(&mut self, at: usize, next: u16, held: u8, row: &Row) -> bool {
-        let next = usize::from(next);
+    fn flow(&mut self, at: usize, next: usize, held: u8, row: &Row) -> bool {
         if self.draft.held[next] == -1 {
             self.draft.held[next] = i32::from(held);
             self.draft.rows[next] = *row;
