@@ -1,4 +1,4 @@
-/* Calls the static library from C: accepted, refused, short slices, slices of length 0. Prints nothing where all is as expected. */
+/* Calls the static library from C: accepted, refused, proposed, short slices, slices of length 0. Prints nothing where all is as expected. */
 #include "rangecheck.h"
 #include <stdio.h>
 #include <string.h>
@@ -42,6 +42,50 @@ static void checks(void) {
     expect(says(rangecheck_check(&word, 0, &word, 0, alarms, 0), 1, 0, 0), "an empty table");
     expect(says(rangecheck_check(bare, 24, &word, 0, alarms, 0), 7, 0, 0), "an empty proposal");
     expect(says(rangecheck_check(bare, 24, rows, 18, alarms, 0), 0, 0, 0), "an empty buffer for no alarm");
+}
+
+static int proposed(struct rangecheck_proposed a, uint32_t number, uint64_t place, uint64_t words, uint64_t passes) {
+    return a.number == number && a.place == place && a.words == words && a.passes == passes;
+}
+
+/* One task that locks its mutex on one side of a test only: two walks bring different held sets to point 2. */
+static const int32_t joins[31] = {1, 1, 1, 3, 3, 3, 0, 2, 2, 1, 2, 3, 0, 2, 0, 0, 0, 0, 0, 0, 0, 0, 0, 0, 0, 0, 0, 16, 0, 1, 0};
+
+static void proposes(void) {
+    static int32_t words[RANGECHECK_PROPOSAL_WORDS], came[RANGECHECK_PROPOSAL_WORDS];
+    int32_t rising[33], alarms[2] = {9, 9}, five = 5, word = 7;
+    const int32_t falling[3] = {0, 5, 5};
+    for (size_t k = 0; k < RANGECHECK_PROPOSAL_WORDS; k++)
+        words[k] = came[k] = -77;
+    for (int32_t k = 0; k < 33; k++)
+        rising[k] = 5 * k;
+
+    expect(proposed(rangecheck_propose(bare, 23, &five, 1, words, 28), 1, 23, 0, 0), "a table refused by the proposer");
+    expect(proposed(rangecheck_propose(bare, 23, falling, 3, words, 0), 1, 23, 0, 0), "the table's refusal before the thresholds'");
+    expect(proposed(rangecheck_propose(bare, 24, falling, 3, words, 28), 19, 2, 0, 0), "a threshold that isn't above the one before");
+    expect(proposed(rangecheck_propose(bare, 24, rising, 33, words, 28), 19, 32, 0, 0), "a threshold after the 32nd");
+    expect(proposed(rangecheck_propose(bare, 24, falling, 3, words, 27), 19, 2, 0, 0), "the thresholds' refusal before the buffer's");
+    expect(proposed(rangecheck_propose(bare, 24, &five, 1, words, 27), 20, 28, 0, 0), "a buffer one word short");
+    expect(proposed(rangecheck_propose(bare, 24, &five, 1, words, 0), 20, 28, 0, 0), "a buffer of no words");
+    expect(proposed(rangecheck_propose(joins, 31, &word, 0, words, 29), 20, 30, 0, 0), "the buffer's refusal before that of the walks");
+    expect(proposed(rangecheck_propose(joins, 31, &word, 0, words, 30), 18, 2, 0, 0), "two walks that bring different held sets");
+    expect(proposed(rangecheck_propose(&word, 0, &word, 0, words, 28), 1, 0, 0, 0), "the proposer on an empty table");
+    expect(memcmp(words, came, sizeof came) == 0, "a refusal changes no word of the proposal");
+
+    expect(proposed(rangecheck_propose(bare, 24, &five, 1, words, 28), 0, 0, 18, 2), "proposed in just the room that is asked for");
+    expect(memcmp(words, rows, sizeof rows) == 0, "the proposal is written");
+    expect(memcmp(words + 18, came + 18, sizeof came - sizeof rows) == 0, "words past the proposal are kept");
+    expect(says(rangecheck_check(bare, 24, words, 18, alarms, 2), 0, 0, 0), "what is proposed is accepted");
+    expect(proposed(rangecheck_propose(bare, 24, rising, 32, words, RANGECHECK_PROPOSAL_WORDS), 0, 0, 18, 2), "proposed by 32 thresholds");
+    expect(memcmp(words, rows, sizeof rows) == 0, "an end goes to the nearest threshold");
+    expect(proposed(rangecheck_propose(bare, 24, &word, 0, words, RANGECHECK_PROPOSAL_WORDS), 0, 0, 18, 2), "proposed by no threshold");
+    expect(words[16] == INT32_MAX, "an end that no threshold covers goes to MAX");
+    expect(says(rangecheck_check(bare, 24, words, 18, alarms, 2), 0, 0, 0), "what is proposed by no threshold is accepted");
+
+    expect(proposed(rangecheck_propose(divides, 27, &word, 0, words, RANGECHECK_PROPOSAL_WORDS), 0, 0, 10, 1), "proposed in one pass");
+    expect(memcmp(words, unreached, sizeof unreached) == 0, "a point that no pass reaches is marked");
+    expect(says(rangecheck_check(divides, 27, words, 10, alarms, 2), 0, 0, 1), "what is proposed is accepted with an alarm");
+    expect(alarms[0] == 2 && alarms[1] == RANGECHECK_ZERO, "the alarm of what is proposed");
 }
 
 static void fill(int64_t *words, size_t n) {
@@ -88,6 +132,7 @@ static void runs(void) {
 
 int main(void) {
     checks();
+    proposes();
     runs();
     return bad;
 }

@@ -1,7 +1,7 @@
 #!/usr/bin/env python3
 """Runs tools/tower and compares what it prints, writes and ends with, with what it should: every subcommand on texts and bytes, good and damaged; errors
 and refusals with their places in the text; what is told of refusals of every rule; formulas, read back by a parser of their own; JSON against text;
-decoded texts against their words; output to files, full disks, closed descriptors and pipes; the building of the library with a kit that only pretends;
+decoded texts against their words; texts in which a proposal is put, and the thresholds for it; output to files, full disks, closed descriptors and pipes; the building of the library with a kit that only pretends;
 the binding of bindings/python; the makefile of examples/tower; and every command that a page quotes with its output, in README.md, docs/FORMAT.md and the
 tower's. Each part of it is a module of tests/front.
 
@@ -17,6 +17,7 @@ from front.formulas import formulas
 from front.checking import checking, running
 from front.telling import ranges_told, showing
 from front.decoding import damaging, decoding
+from front.proposing import proposing
 from front.writing import devices, full_disk, replacing, streams
 from front.building import building, pretended, surroundings
 from front.around import binding, makefile, pages, tower_texts, version
@@ -25,7 +26,7 @@ from front.pictures import picturing
 
 def main():
     parts = (
-        usage, reading, bytes_read, several, names, checking, running, showing, ranges_told, formulas, decoding, replacing, devices, streams, full_disk, surroundings, building,
+        usage, reading, bytes_read, several, names, checking, running, showing, ranges_told, formulas, decoding, proposing, replacing, devices, streams, full_disk, surroundings, building,
         version, binding, makefile, damaging, tower_texts, picturing, pages,
     )
     with folder_of() as folder:

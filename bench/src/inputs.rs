@@ -1,10 +1,12 @@
-//! What is checked and run. Everything drawn depends on the seed alone.
+//! What is checked, proposed and run. Everything drawn depends on the seed alone.
 
 use crate::schedule::{schedule, Motion};
 use peer::generate::{case, largest, table, Random};
-use peer::table::Table;
-use peer::words::ALARM_WORDS;
+use peer::propose;
+use peer::table::{Node, Table};
+use peer::words::{ALARM_WORDS, PROPOSAL_WORDS};
 use peer::Verdict;
+use std::collections::BTreeSet;
 use std::path::Path;
 use std::process::Command;
 
@@ -12,6 +14,9 @@ const SEED: u64 = 1;
 
 /// How many drawn tables and proposals are summed up.
 const DRAWN: usize = 200;
+
+/// The most that a proposer takes.
+const THRESHOLDS: usize = 32;
 
 const LONG: usize = 100_000;
 const SHORT: usize = 1_000;
@@ -23,12 +28,19 @@ const BUSY: usize = 6;
 /// How many of the largest tables are looked at for one that keeps on.
 const LARGEST: u64 = 40;
 
-/// A table, and a proposal or a schedule.
+/// A table, and a proposal, thresholds or a schedule.
 pub type Pair = (Vec<i32>, Vec<i32>);
 
 pub struct Check {
     pub name: String,
     pub pairs: Vec<Pair>,
+}
+
+pub struct Proposal {
+    pub name: String,
+    pub pairs: Vec<Pair>,
+    /// Of all together.
+    pub passes: usize,
 }
 
 pub struct Run {
@@ -74,6 +86,53 @@ fn accepted() -> Vec<Pair> {
         matches!(verdict, Verdict::Accepted { .. })
     };
     pairs.filter(fits).take(DRAWN).collect()
+}
+
+pub fn proposals(tower: &Pair) -> Vec<Proposal> {
+    let proposal = |name: String, tables: Vec<Vec<i32>>| {
+        let pairs: Vec<Pair> = tables.into_iter().map(with_thresholds).collect();
+        let passes = pairs.iter().filter_map(passes).sum();
+        Proposal { name, pairs, passes }
+    };
+    vec![
+        proposal("proposal for the tower".into(), vec![tower.0.clone()]),
+        proposal(format!("proposals for {DRAWN} drawn tables"), joinless()),
+        proposal("proposal for a largest table".into(), vec![largest_pair().0]),
+    ]
+}
+
+/// With the table's own numbers and those beside them, as `tools/tower` takes
+/// them: of more than 32 as many, at equal steps.
+fn with_thresholds(words: Vec<i32>) -> Pair {
+    let table = Table::decode(&words).expect("a valid table");
+    let mut numbers = table.starts[..table.variables].to_vec();
+    for node in &table.nodes {
+        match *node {
+            Node::Constant(value) => numbers.push(value),
+            Node::Input(interval) => numbers.extend([interval.low(), interval.high()]),
+            _ => {}
+        }
+    }
+    let beside = |z: i32| [z.saturating_sub(1), z, z.saturating_add(1)];
+    let rising: BTreeSet<i32> = numbers.into_iter().flat_map(beside).collect();
+    let within = |z: &i32| ![i32::MIN, i32::MAX].contains(z);
+    let rising: Vec<i32> = rising.into_iter().filter(within).collect();
+    let thresholds = match rising.len() {
+        ..=THRESHOLDS => rising,
+        count => (0..THRESHOLDS).map(|k| rising[k * (count - 1) / (THRESHOLDS - 1)]).collect(),
+    };
+    (words, thresholds)
+}
+
+fn passes((table, thresholds): &Pair) -> Option<usize> {
+    propose(table, thresholds, PROPOSAL_WORDS).ok().map(|proposed| proposed.passes)
+}
+
+/// Drawn tables to whose points no two walks bring different held sets.
+fn joinless() -> Vec<Vec<i32>> {
+    let mut random = Random::new(SEED);
+    let tables = std::iter::repeat_with(|| table(&mut random));
+    tables.filter(|table| propose(table, &[], PROPOSAL_WORDS).is_ok()).take(DRAWN).collect()
 }
 
 pub fn runs(tower: &Pair) -> Vec<Run> {

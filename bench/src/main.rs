@@ -1,4 +1,4 @@
-//! Times the proved check and run against the independent implementation, in
+//! Times the proved check, proposer and run against the independent implementation, in
 //! one process and on the same inputs, the whole program against `cat`, and how
 //! checks grow with their sizes and with deep formulas: `bench [RANGECHECK]`.
 
@@ -9,10 +9,10 @@ mod program;
 mod schedule;
 mod timing;
 
-use inputs::{Check, Pair, Run};
+use inputs::{Check, Pair, Proposal, Run};
 use peer::words::ALARM_WORDS;
-use peer::Verdict;
-use rangecheck::{check_into, run_into, STATE_WORDS};
+use peer::{Proposed, Verdict};
+use rangecheck::{check_into, propose_into, run_into, PROPOSAL_WORDS, STATE_WORDS};
 use std::hint::black_box;
 use std::path::{Path, PathBuf};
 use timing::{in_turns, ratio, Times};
@@ -27,11 +27,18 @@ fn main() {
     for check in inputs::checks(&tower) {
         line(&check.name, words(&check.pairs), &time_check(&check));
     }
+    let proposals = inputs::proposals(&tower);
+    for proposal in &proposals {
+        line(&proposal.name, words(&proposal.pairs), &time_proposal(proposal));
+    }
     let runs = inputs::runs(&tower);
     for run in &runs {
         line(&run.name, words(&run.pairs), &time_run(run));
     }
     println!();
+    for Proposal { name, passes, .. } in &proposals {
+        println!("{name}: {passes} passes");
+    }
     runs.iter().for_each(describe);
     println!();
 
@@ -69,6 +76,32 @@ fn time_check(check: &Check) -> [Times; 2] {
             for (table, proposal) in &check.pairs {
                 let (table, proposal) = (black_box(table), black_box(proposal));
                 black_box(peer::check(table, proposal, black_box(&mut theirs)));
+            }
+        },
+    )
+}
+
+/// The same for proposals.
+fn time_proposal(proposal: &Proposal) -> [Times; 2] {
+    let mut words = [0; PROPOSAL_WORDS];
+    for (table, thresholds) in &proposal.pairs {
+        let written = propose_into(table, thresholds, &mut words).expect("it is made");
+        let by_peer = peer::propose(table, thresholds, PROPOSAL_WORDS).expect("it is made");
+        let ours =
+            Proposed { words: words[..written.words].into(), passes: written.passes as usize };
+        assert_eq!(ours, by_peer, "{}", proposal.name);
+    }
+    in_turns(
+        || {
+            for (table, thresholds) in &proposal.pairs {
+                let (table, thresholds) = (black_box(table), black_box(thresholds));
+                let _ = black_box(propose_into(table, thresholds, black_box(&mut words)));
+            }
+        },
+        || {
+            for (table, thresholds) in &proposal.pairs {
+                let (table, thresholds) = (black_box(table), black_box(thresholds));
+                let _ = black_box(peer::propose(table, thresholds, PROPOSAL_WORDS));
             }
         },
     )

@@ -1,5 +1,5 @@
 """The version, the binding, the makefile, the tower's texts and the pages."""
-import ctypes, doctest, os, re, resource, shutil, subprocess, sys, threading
+import ctypes, doctest, itertools, os, re, resource, shutil, subprocess, sys, threading
 from .common import (
     BARE, BARE_PROPOSAL, BUILT, CHECKER, DISTURBED, LIBRARY, MAX, MIN, ROOT, RUNNER, SOUND, SOUND_PROPOSAL, TEXT, as_bytes, contents,
     example, expect, folder_of, json_of, lines, printed, put, raised, shown, started, tower, tried,
@@ -37,6 +37,19 @@ def binding():
     alarms = words(8)
     expect("a refusal changes nothing", (raised(LIBRARY.check_into, BARE, DISTURBED, alarms), list(alarms)), (("Refusal", "refused 15 disturb at 2"), [77] * 8))
     expect("room for no alarm", raised(LIBRARY.check_into, BARE, BARE_PROPOSAL, words(0)), 0)
+    for size in (0, 1, 18, 27, 28, 30, 9988):  # 28 are asked for, though 18 are written
+        proposal = words(size)
+        got = raised(LIBRARY.propose_into, BARE, [5], proposal)
+        want = ((18, 2), BARE_PROPOSAL + [77] * (size - 18)) if size >= 28 else (("Refusal", "refused 20 space at 28"), [77] * size)
+        expect("room for %d words of a proposal" % size, (got, list(proposal)), want)
+    expect("a proposal", LIBRARY.propose(BARE, [5]), LIBRARY.Proposal(BARE_PROPOSAL, 2))
+    proposal = words(28)
+    for parts, want in (
+        ((BARE[:-1], [5]), "1 length at 23"), ((BARE, [5, 5]), "19 rise at 1"), ((BARE, range(33)), "19 rise at 32"), (([], []), "1 length at 0"),
+        (([1, 1, 1, 2, 1, 2, 0, 3, 0, 1, 0, 1, 0, 0, 0, 0, 1, 0, 0], []), "18 walks at 0"),
+    ):
+        expect("no proposal: %s" % want, (raised(LIBRARY.propose_into, *parts, proposal), list(proposal)), (("Refusal", "refused " + want), [77] * 28))
+        expect("no proposal in an ample buffer: %s" % want, raised(LIBRARY.propose, *parts), ("Refusal", "refused " + want))
     for size in (0, 1, 47, 48, 50):
         answer = state(size)
         got = raised(LIBRARY.run_into, BARE, [0], answer)
@@ -49,7 +62,7 @@ def binding():
         expect("empty lists", raised(call, *parts), ("Refusal", "refused %s at 0" % want))
     expect("a run without a schedule", LIBRARY.run(BARE, []).points, [0, 2] + [0] * 6)
     for word in (MAX + 1, MIN - 1, 2 ** 64, -(2 ** 64)):
-        for call, parts in ((LIBRARY.check, ([word], [])), (LIBRARY.check, (BARE, [word])), (LIBRARY.run, ([word], [])), (LIBRARY.run, (BARE, [word]))):
+        for call, parts in itertools.product((LIBRARY.check, LIBRARY.propose, LIBRARY.run), (([word], []), (BARE, [word]))):
             expect("the word %d" % word, raised(call, *parts)[0], "OverflowError")
     for word in (1.5, "1", None):
         expect("the word %r" % word, raised(LIBRARY.check, [word], [])[0], "TypeError")
@@ -59,7 +72,7 @@ def binding():
         LIBRARY.check(BARE, DISTURBED)
     except LIBRARY.Refusal as problem:
         expect("a refusal", (problem.number, problem.word, problem.place), (15, "disturb", 2))
-    expect("trade's words", [LIBRARY.word_of(n) for n in (1, 16, 17, 31)], ["length", "rest", "room", "short"])
+    expect("trade's words", [LIBRARY.word_of(n) for n in (1, 16, 17, 18, 19, 20, 31)], ["length", "rest", "room", "walks", "rise", "space", "short"])
     # another library, by the environment
     with folder_of() as folder:
         other = shutil.copy(BUILT, os.path.join(folder, "other.so"))
@@ -70,7 +83,8 @@ def binding():
             expect("the library %s" % library, (ran.stdout, b"OSError" in ran.stderr), (want, want == b""))
     # in threads
     got = []
-    threads = [threading.Thread(target=lambda: got.append([LIBRARY.check(SOUND, SOUND_PROPOSAL) for _ in range(50)])) for _ in range(4)]
+    both = lambda: LIBRARY.check(SOUND, LIBRARY.propose(SOUND, [-3, 3, 9]).words) and LIBRARY.check(SOUND, SOUND_PROPOSAL)
+    threads = [threading.Thread(target=lambda: got.append([both() for _ in range(50)])) for _ in range(4)]
     for thread in threads:
         thread.start()
     for thread in threads:
@@ -102,6 +116,8 @@ def makefile():
         os.utime(path("wrong.alarms"), (1, 1))
         for _ in range(2):
             expect("make wrong.alarms over an old one", (make("wrong.alarms")[2], contents(path("wrong.alarms"))), (2, b"old\n"))
+        put(path("alone.txt"), contents(path("tower.txt")).split(b"\nproposal")[0])
+        expect("make of a text without a proposal", (make("alone.alarms")[2], contents(path("alone.alarms"))), (0, good))
         put(path("cut.txt"), contents(path("tower.txt"))[:2000])
         expect("make of a damaged text", (make("cut.alarms")[2], os.path.exists(path("cut.alarms"))), (2, False))
         os.utime(path("tower.alarms"), (1, 1))
@@ -110,7 +126,7 @@ def makefile():
         put(path("tower.alarms"), "old\n")
         os.utime(path("tower.alarms"), (1, 1))
         expect("make when there is room", (make("tower.alarms")[2], contents(path("tower.alarms"))), (0, good))
-        expect("what is left behind", sorted(os.listdir(place)), sorted(there + ["cut.txt", "tower.alarms", "wrong.alarms"]))
+        expect("what is left behind", sorted(os.listdir(place)), sorted(there + ["alone.alarms", "alone.txt", "cut.txt", "tower.alarms", "wrong.alarms"]))
 
 
 # ---- the tower

@@ -124,7 +124,7 @@ FIRST = re.compile(rb"(?:accepted \d+|refused \d+ [a-z]+ at \d+)\n")
 def one_damaged(data, seen):
     case = "%r" % data
     answers = {}
-    for options in (("check",), ("show",), ("decode",), ("encode",), ("check", "--json"), ("show", "--json"), ("run",), ("picture",)):
+    for options in (("check",), ("show",), ("decode",), ("encode",), ("check", "--json"), ("show", "--json"), ("run",), ("picture",), ("propose",), ("propose", "--json")):
         out, error, status = tower(*options, given=data)
         answers[options] = out, error, status
         if status == 2:
@@ -136,10 +136,17 @@ def one_damaged(data, seen):
                 expect("%s on %s" % (options, case), raised(json.loads, out.decode())["number"] != 0, status == 1)
             elif options[0] in ("check", "show"):
                 expect("the first line of %s on %s" % (options, case), (FIRST.match(out) is not None, out.startswith(b"refused")), (True, status == 1))
-    check, encode = answers[("check",)], answers[("encode",)]
-    expect("the status of all on %s" % case, {answers[options][2] for options in (("show",), ("check", "--json"), ("show", "--json"), ("picture",))}, {check[2]})
+    check, encode, propose = answers[("check",)], answers[("encode",)], answers[("propose",)]
+    lacks = answers[("show",)][1].endswith("has no section 'proposal'\n")  # which check and propose make if there is none
+    statuses = [{answers[options][2] for options in group} for group in ((("check", "--json"),), (("show",), ("show", "--json"), ("picture",)), (("propose", "--json"),))]
+    expect("the status of all on %s" % case, statuses, [{check[2]}, {2 if lacks else check[2]}, {propose[2]}])
     seen[check[2]] = seen.get(check[2], 0) + 1
-    if check[2] == 2:
+    expect("propose reads what check reads, on %s" % case, propose[2] == 2, check[2] == 2)
+    if propose[2] == 0:
+        expect("check after propose on %s" % case, tower("check", "-q", given=propose[0])[1:], ("", 0))
+    elif propose[2] == 1 and (lacks or propose[0].split()[1] != b"18"):
+        expect("the refusal of check and propose on %s" % case, propose[0], check[0])
+    if check[2] == 2 or lacks:
         return
     expect("decode and encode on %s" % case, (tower("encode", given=answers[("decode",)][0]), encode[2]), (encode, 0))
     asked = printed(CHECKER, given=encode[0]).encode()

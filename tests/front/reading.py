@@ -7,11 +7,11 @@ from .common import (
 
 
 # ---- usage
-COMMANDS = ("check", "show", "run", "picture", "encode", "decode", "build", "prove")
+COMMANDS = ("check", "propose", "show", "run", "picture", "encode", "decode", "build", "prove")
 WRONG_USAGE = [
     (), ("frob",), ("--frob",), ("-q",), ("",), ("Check",), ("check", "--frob"), ("check", "-o"), ("check", "--task", "0"), ("check", "--run"), ("show", "-q"), ("show", "--run"),
     ("run", "--runner", "x"), ("run", "--all"), ("picture", "--task"), ("picture", "--json"), ("encode", "--json"), ("decode", "--json"), ("decode", "--run"), ("build", "x"),
-    ("build", "-o", "x"), ("prove", "x"), ("prove", "--json"), ("check", "--json=yes"), ("--version=2",), ("\udcff",), ("check", "--\udcff"),
+    ("build", "-o", "x"), ("check", "--thresholds", "1"), ("propose", "--thresholds"), ("propose", "--threshold=s", "-q"), ("propose", "--run"), ("prove", "x"), ("prove", "--json"), ("check", "--json=yes"), ("--version=2",), ("\udcff",), ("check", "--\udcff"),
 ]
 
 
@@ -99,7 +99,9 @@ UTF16 = "1:1: this text is in UTF-16; save it as UTF-8"
 def reading():
     for text, message in ERRORS:
         others = () if "no section" in message else (("decode",), ("run",))
-        for command in (("encode",), ("check",), ("show",), ("picture",), ("check", "--json"), ("show", "--json"), *others):
+        if "no section 'proposal'" not in message:  # which these make if there is none
+            others += (("check",), ("check", "--json"), ("propose",), ("propose", "--json"))
+        for command in (("encode",), ("show",), ("picture",), ("show", "--json"), *others):
             expect("%s on %r" % (command, text[:60]), tower(*command, given=text.encode()), (b"", "<stdin>:%s\n" % message, 2))
         tried("errors of texts")
     for text, message in RUN_ERRORS:
@@ -130,10 +132,10 @@ def reading():
     expect("a byte order mark later", tower("check", given="table 1\n\ufeffproposal".encode()), (b"", "<stdin>:2:1: '\\ufeffproposal' is no decimal number and no mark\n", 2))
     for text in (plain, "table 1", "# größer\r\ntable 1", "1 2"):
         for code in ("utf-16", "utf-16-le", "utf-16-be"):
-            for command in ("check", "show", "run", "picture", "encode", "decode"):
+            for command in ("check", "propose", "show", "run", "picture", "encode", "decode"):
                 expect("%s on %r in %s" % (command, text[:9], code), tower(command, given=text.encode(code)), (b"", "<stdin>:%s\n" % UTF16, 2))
     expect("a zero in a comment", tower("check", given=b"# a zero: \0\n" + BARE_TEXT.encode()), (b"accepted 0\n", "", 0))
-    for command in ("check", "show", "run", "picture", "encode", "decode"):
+    for command in ("check", "propose", "show", "run", "picture", "encode", "decode"):
         for data in (b"", b"\n", b"\r\n", b"# nothing", b"\xef\xbb\xbf"):
             _, error, status = tower(command, given=data)
             expect("%s on %r" % (command, data), (re.sub(r"^<stdin>:\d:\d+: ", "", error), status), ("the text ends and has no section 'table'\n", 2))
@@ -215,7 +217,7 @@ def several():
             (("/",), "%s: Is a directory" % path("")), (("/table.txt/x",), "%s: Not a directory" % path("table.txt/x")), (("",), ": No such file or directory"),
             (("/" + "x" * 300,), "%s: File name too long" % path("x" * 300)),
         ):
-            for command in ("check", "encode", "show", "picture"):
+            for command in ("encode", "show", "picture") + (() if "no section 'proposal'" in message else ("check", "propose")):
                 expect("%s %s" % (command, files), under(command, *files), (b"", message + "\n", 2))
             tried("errors of files")
         out, error, status = under("check", "/\udcff.txt")
@@ -282,7 +284,7 @@ def names():
     for comments, want in NAMES:
         given = (comments + "\n" + SOUND_TEXT).encode()
         if isinstance(want, str):
-            for command in ("check", "show", "picture", "encode", "decode"):
+            for command in ("check", "propose", "show", "picture", "encode", "decode"):
                 expect("%s with %r" % (command, comments[:60]), tower(command, given=given), (b"", "<stdin>:%s\n" % want, 2))
         else:
             out = tower("decode", given=given)[0].decode()

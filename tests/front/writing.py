@@ -6,7 +6,7 @@ from .common import (
 from .decoding import BARE_DECODED
 
 WITH_OUTPUT = [
-    ("check", "-q"), ("check", "-q", "--json"), ("show",), ("show", "--json"), ("run",), ("run", "--json"), ("picture",), ("encode",), ("encode", "--run"), ("decode",),
+    ("check", "-q"), ("check", "-q", "--json"), ("propose",), ("propose", "--json"), ("show",), ("show", "--json"), ("run",), ("run", "--json"), ("picture",), ("encode",), ("encode", "--run"), ("decode",),
 ]
 EVERY = [*((*options, TEXT) for options in WITH_OUTPUT), ("check", TEXT), ("--help",), ("check", "--help"), ("--version",), ("build",)]
 
@@ -51,12 +51,11 @@ def replacing():
             expect("%s -o without room" % (options,), got, (b"", "%s: File too large\n" % path("old.txt"), 2))
             expect("what is there after %s" % (options,), (contents(path("old.txt")), sorted(os.listdir(folder))), (b"old\n", there))
             # a refusal goes to a file only from show, run and picture
-            refused = ("run", *options[1:]) if options[0] == "run" else options
-            source = path("refused.txt" if options[0] == "run" else "wrong.txt")
-            if options[0] in ("check", "show", "run", "picture"):
-                shown, said, _ = tower(*refused, source)
-                expect("%s -o, refused" % (options,), tower(*refused, "-o", path("old.txt"), source), (b"", said, 1))
-                want = b"old\n" if options[0] == "check" else shown
+            source = path("refused.txt" if options[0] in ("run", "propose") else "wrong.txt")
+            if options[0] in ("check", "propose", "show", "run", "picture"):
+                shown, said, _ = tower(*options, source)
+                expect("%s -o, refused" % (options,), tower(*options, "-o", path("old.txt"), source), (b"", said, 1))
+                want = b"old\n" if options[0] in ("check", "propose") else shown
                 expect("what is there after %s, refused" % (options,), (contents(path("old.txt")), sorted(os.listdir(folder))), (want, there))
             put(path("old.txt"), "old\n")
             tried("outputs", 9)
@@ -147,7 +146,7 @@ def streams():
         expect("%s to /dev/full" % (options,), started(*options, stdout=full)[2], 2)
         tried("outputs", 5)
     os.close(write)
-    for command in ("check", "show", "run", "picture", "encode", "decode"):
+    for command in ("check", "propose", "show", "run", "picture", "encode", "decode"):
         got = started(command, stdin=subprocess.DEVNULL, first=closing(0))
         expect("%s from a closed descriptor" % command, got, (b"", "<stdin>:1:1: the text ends and has no section 'table'\n", 2))
         none = dict(stdin=subprocess.DEVNULL, stdout=subprocess.DEVNULL, stderr=subprocess.DEVNULL)
@@ -176,7 +175,7 @@ def full_disk():
             return
         try:
             old, out = put(os.path.join(folder, "old"), "old\n"), os.path.join(folder, "out")
-            for options in (("show", "--json"), ("run", "--json"), ("picture",), ("decode",)):
+            for options in (("show", "--json"), ("run", "--json"), ("picture",), ("decode",), ("propose",)):
                 if len(tower(*options, TEXT)[0]) <= 8192:
                     continue
                 expect("%s -o on a full disk" % (options,), started(*options, "-o", old, TEXT), (b"", "%s: No space left on device\n" % old, 2))

@@ -76,17 +76,21 @@ def proposal_rows(table, proposal, words):
         yield from end_rows(table, proposal, side, what)
 
 
+def section(given, mark, table, proposal):
+    """A section from its mark on, cut into its parts where that can be done."""
+    words = given.sections[mark]
+    if mark == "table" and table:
+        return [mark, *lined(list(table_rows(table, words)))]
+    if mark == "proposal" and proposal:
+        return [mark, *lined(list(proposal_rows(table, proposal, words)))]
+    return [mark, *plain(words)]
+
+
 def decoded(given):
-    """All lines: each section that was given, cut into its parts where that can be done."""
+    """All lines: each section that was given."""
     table = table_of(given)
     proposal = proposal_of(table, given)
     lines = list(named(given))
-    for mark, words in given.sections.items():
-        lines += ([""] if lines else []) + [mark]
-        if mark == "table" and table:
-            lines += lined(list(table_rows(table, words)))
-        elif mark == "proposal" and proposal:
-            lines += lined(list(proposal_rows(table, proposal, words)))
-        else:
-            lines += plain(words)
+    for mark in given.sections:
+        lines += ([""] if lines else []) + section(given, mark, table, proposal)
     return lines

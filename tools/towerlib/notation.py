@@ -41,7 +41,8 @@ class Given:
 
     def __init__(self):
         self.sections, self.places, self.marks, self.names, self.named = {}, {}, {}, {}, {}
-        self.end = None  # where the last text ends
+        self.texts = []  # as they were read, one after the other
+        self.end = None  # where the last one ends
 
     table = property(lambda self: self.sections.get("table", []))
     proposal = property(lambda self: self.sections.get("proposal", []))
@@ -83,11 +84,11 @@ def is_name(text):
 
 
 # ---- texts
-def problem_of(token):
-    """What is wrong with a token that is no number and no mark."""
+def problem_of(token, other=" and no mark"):
+    """What is wrong with a token that is no number and nothing else that it might be."""
     if re.fullmatch(r"-?[0-9]+", token):
         return "%s doesn't fit in 32 bits" % (token if len(token) <= SHORT else token[:SHORT] + " ..")
-    return "%s is no decimal number and no mark" % quoted(token)
+    return "%s is no decimal number%s" % (quoted(token), other)
 
 
 def add_name(given, comment, place):
@@ -134,6 +135,7 @@ def add_text(given, text, file):
                 given.places[section][0].append(place.line)
                 given.places[section][1].append(place.column)
         add_name(given, comment, Place(file, l, len(code) + 2))
+    given.texts.append(text)
     given.end = Place(file, len(lines), len(lines[-1]) + 1)
 
 

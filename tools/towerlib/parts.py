@@ -166,7 +166,7 @@ class Proposal:
 
 def counted(count, name):
     """`1 mutex`, `2 mutexes`."""
-    return "%d %s" % (count, name if count != 1 else {"mutexes": "mutex", "entries": "entry"}.get(name, name[:-1]))
+    return "%d %s" % (count, name if count != 1 else {"mutexes": "mutex", "entries": "entry", "passes": "pass"}.get(name, name[:-1]))
 
 
 def wide(text):

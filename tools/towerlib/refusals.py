@@ -137,6 +137,37 @@ def of_rest(table, proposal, place):
     return [ranged(table, proposal, i)] + ["the rest row of %s has only %s %s" % (table.name("m", m), table.name("v", v), span(*proposal.rests[m][v])) for m in lacking]
 
 
+def walked(table, u):
+    """The held sets that walks over a task's instructions bring to each point, each with the point that they come from, or None at the start. A walk takes both
+    sides of a test, and ends at a lock on what is held and at an unlock of what isn't."""
+    brought, todo = {}, [(table.firsts[u], 0, None)]
+    for p, held, before in todo:
+        sets = brought.setdefault(p, {})
+        kind, m = table.points[p][:2]
+        changed = 2 ** m if kind in (3, 4) else 0
+        if held not in sets and held & changed == (changed if kind == 4 else 0):
+            todo += [(q, held ^ changed, p) for _, q in table.targets(p)]
+        sets.setdefault(held, before)
+    return brought
+
+
+def of_walks(table, p):
+    """Refusal 18: two of the held sets that are brought to a point, the least ones, and where from."""
+    sets = walked(table, table.owner[p])[p]
+    told = ["%s: %s" % (table.point(p), table.instruction(p))]
+    for held in sorted(sets)[:2]:
+        way = "a walk starts there with" if sets[held] is None else "from point %d a walk brings" % sets[held]
+        told.append("%s the held set %s" % (way, table.held(held)))
+    return told
+
+
+def of_thresholds(thresholds, place):
+    """Refusal 19."""
+    if place == 32:
+        return ["there are %d thresholds, and 32 at most are taken" % len(thresholds)]
+    return ["threshold %d, which is %s, isn't above the one before it, %s" % (place, end(thresholds[place]), end(thresholds[place - 1]))]
+
+
 def told(answer):
     """Lines that say what a refusal speaks of."""
     library, table, proposal, given, number, place = answer.library, answer.table, answer.proposal, answer.given, answer.number, answer.place
@@ -153,4 +184,8 @@ def told(answer):
         return [ranged(table, proposal, place - 1), ranged(table, proposal, place), "the second must come after the first by task, set, variable"]
     if number in (13, 14):
         return (of_flow if number == 13 else of_write)(library, table, proposal, place)
+    if number == 18:
+        return of_walks(table, place)
+    if number == 19:
+        return of_thresholds(answer.thresholds, place)
     return {9: of_word, 11: of_start, 12: of_locks, 15: of_others, 16: of_rest}[number](table, proposal, place)

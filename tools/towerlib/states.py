@@ -7,7 +7,7 @@ class Played(Answer):
     """The state that a run ends in, or the refusal of its table."""
 
     def __init__(self, library, given):
-        super().__init__(library, given, library.run, "table", "schedule")
+        super().__init__(library, given, lambda: library.run(given.table, given.schedule))
         self.state = self.result
 
     def stop(self, u):

@@ -1,15 +1,16 @@
-//! A safe wrapper of `librangecheck_c.a`, the proved check and run, with the standard library alone.
+//! A safe wrapper of `librangecheck_c.a`, the proved check, proposer and run, with the standard library alone.
 //!
-//! Both take any words whatever and always come back: each is proved equal to a definition, for every table, proposal and schedule. Formulas that are nested
-//! as deep as a table can have them were measured to take 0.8 MB of stack, so a thread of the usual 2 MB is enough.
+//! All three take any words whatever and always come back: each is proved equal to a definition, for every table, proposal, list of thresholds and schedule.
+//! Formulas that are nested as deep as a table can have them were measured to take 0.8 MB of stack, so a thread of the usual 2 MB is enough.
 //!
 //! ```
-//! use rangecheck::{check, run, Refusal};
+//! use rangecheck::{check, propose, run, Refusal};
 //!
 //! // Two tasks and one variable; the first task writes 5 to it.
 //! let table = [2, 1, 0, 3, 1, 2, 1, 0, 1, 0, 0, 1, 0, 0, 0, 0, 0, 0, 0, 0, 0, 5, 0, 0];
 //! let proposal = [3, 1, 0, 1, 0, 0, 0, 0, 0, 0, 0, 5, 0, 5, 0, 5, 5, 5];
 //! assert_eq!(check(&table, &proposal), Ok(vec![]));
+//! assert_eq!(propose(&table, &[5]).unwrap().words, proposal);
 //! assert_eq!(run(&table, &[0]).unwrap().values[0], 5);
 //!
 //! // The second task's row must hold what the first writes.
@@ -30,6 +31,14 @@ struct Answer {
     count: u64,
 }
 
+#[repr(C)]
+struct Proposed {
+    number: u32,
+    place: u64,
+    words: u64,
+    passes: u64,
+}
+
 extern "C" {
     fn rangecheck_check(
         table: *const i32,
@@ -39,6 +48,15 @@ extern "C" {
         alarms: *mut i32,
         alarms_len: usize,
     ) -> Answer;
+
+    fn rangecheck_propose(
+        table: *const i32,
+        table_len: usize,
+        thresholds: *const i32,
+        thresholds_len: usize,
+        proposal: *mut i32,
+        proposal_len: usize,
+    ) -> Proposed;
 
     fn rangecheck_run(
         table: *const i32,
@@ -53,13 +71,16 @@ extern "C" {
 /// Words that hold any alarm list.
 pub const ALARM_WORDS: usize = 4096;
 
+/// Words that hold any proposal that [`propose`] makes.
+pub const PROPOSAL_WORDS: usize = 9988;
+
 /// Words of a state: 8 points, 16 values, 8 owners, 8 stop nodes, 8 stop kinds.
 pub const STATE_WORDS: usize = 48;
 
 /// The first broken rule and its smallest place.
 #[derive(Clone, Copy, Debug, PartialEq, Eq, Hash)]
 pub struct Refusal {
-    /// 1 to 17, or 31 of [`run_into`].
+    /// 1 to 17, 18 to 20 of [`propose`], or 31 of [`run_into`].
     pub number: u32,
     /// A word, task, node, point, entry or count of words, by the number.
     pub place: u64,
@@ -68,12 +89,12 @@ pub struct Refusal {
 impl Refusal {
     /// The trade's word for the rule.
     pub fn word(&self) -> &'static str {
-        const WORDS: [&str; 17] = [
+        const WORDS: [&str; 20] = [
             "length", "size", "share", "node", "point", "use", "reach", "match", "range", "order",
-            "start", "locks", "flow", "write", "disturb", "rest", "room",
+            "start", "locks", "flow", "write", "disturb", "rest", "room", "walks", "rise", "space",
         ];
         match self.number {
-            n @ 1..=17 => WORDS[n as usize - 1],
+            n @ 1..=20 => WORDS[n as usize - 1],
             _ => "short",
         }
     }
@@ -109,6 +130,24 @@ pub struct Alarm {
     pub node: usize,
     /// What can go wrong there.
     pub kind: Kind,
+}
+
+/// A proposal that was made for a table.
+#[derive(Clone, Debug, PartialEq, Eq, Hash)]
+pub struct Proposal {
+    /// Its words, which [`check`] accepts.
+    pub words: Vec<i32>,
+    /// How many passes over the points were made; the last one changed nothing.
+    pub passes: u64,
+}
+
+/// What [`propose_into`] wrote.
+#[derive(Clone, Copy, Debug, PartialEq, Eq, Hash)]
+pub struct Written {
+    /// How many words of the slice are the proposal.
+    pub words: usize,
+    /// How many passes over the points were made; the last one changed nothing.
+    pub passes: u64,
 }
 
 /// A state of a run. Slots past the table's sizes are 0.
@@ -176,8 +215,68 @@ pub fn check_into(table: &[i32], proposal: &[i32], alarms: &mut [i32]) -> Result
             alarms.len(),
         )
     };
-    told(&answer)?;
+    told(answer.number, answer.place)?;
     Ok(answer.count as usize)
+}
+
+/// Makes a proposal for a table, one that [`check`] accepts. Thresholds rise strictly, and are 32 at most: the end of a range that must move goes to the
+/// nearest one that covers it, or to `i32::MIN` or `i32::MAX`.
+///
+/// ```
+/// use rangecheck::{check, propose, Refusal};
+///
+/// // One task goes from 0 up to 9, round and round: if v < 9 then v + 1 else 0.
+/// let nodes = [[2, 0, 0, 0], [0, 9, 0, 0], [16, 0, 1, 0], [2, 0, 0, 0], [0, 1, 0, 0], [4, 3, 4, 0], [0, 0, 0, 0], [8, 2, 5, 6]];
+/// let table = [&[1, 1, 0, 1, 8, 1, 0, 1, 0, 7, 0], nodes.as_flattened()].concat();
+/// let proposal = propose(&table, &[0, 9]).unwrap();
+/// assert_eq!(proposal.words, [1, 1, 0, 1, 0, 0, 0, 0, 0, 0, 9, 9]);
+/// assert_eq!(check(&table, &proposal.words), Ok(vec![]));
+/// assert_eq!(propose(&table, &[9, 0]), Err(Refusal { number: 19, place: 1 }));
+/// ```
+pub fn propose(table: &[i32], thresholds: &[i32]) -> Result<Proposal, Refusal> {
+    let mut words = vec![0; PROPOSAL_WORDS];
+    let written = propose_into(table, thresholds, &mut words)?;
+    words.truncate(written.words);
+    Ok(Proposal {
+        words,
+        passes: written.passes,
+    })
+}
+
+/// The same, without an allocation: the proposal stands at the slice's front. Later words keep their contents, and a refusal changes none. A slice that has
+/// no room for one entry a point is refused by 20, at the words that it needs; [`PROPOSAL_WORDS`] are always enough.
+///
+/// ```
+/// use rangecheck::{propose_into, Refusal, Written};
+///
+/// let table = [1, 1, 0, 1, 0, 1, 7, 0, 0, 0, 0];
+/// let mut words = [9; 13];
+/// assert_eq!(propose_into(&table, &[], &mut words[..11]), Err(Refusal { number: 20, place: 12 }));
+/// assert_eq!(words, [9; 13]);
+/// assert_eq!(propose_into(&table, &[], &mut words), Ok(Written { words: 7, passes: 1 }));
+/// assert_eq!(words, [1, 1, 0, 0, 0, 7, 7, 9, 9, 9, 9, 9, 9]);
+/// ```
+pub fn propose_into(
+    table: &[i32],
+    thresholds: &[i32],
+    proposal: &mut [i32],
+) -> Result<Written, Refusal> {
+    // SAFETY: as in `check_into`.
+    let answer = unsafe {
+        rangecheck_propose(
+            table.as_ptr(),
+            table.len(),
+            thresholds.as_ptr(),
+            thresholds.len(),
+            proposal.as_mut_ptr(),
+            proposal.len(),
+        )
+    };
+    told(answer.number, answer.place)?;
+    Ok(Written {
+        words: answer.words as usize,
+        passes: answer.passes,
+    })
 }
 
 /// Plays a table by a schedule, and gives the last state.
@@ -218,7 +317,7 @@ pub fn run(table: &[i32], schedule: &[i32]) -> Result<State, Refusal> {
 /// ```
 pub fn run_into(table: &[i32], schedule: &[i32], answer: &mut [i64]) -> Result<(), Refusal> {
     // SAFETY: as in `check_into`.
-    let told_by = unsafe {
+    let answered = unsafe {
         rangecheck_run(
             table.as_ptr(),
             table.len(),
@@ -228,17 +327,14 @@ pub fn run_into(table: &[i32], schedule: &[i32], answer: &mut [i64]) -> Result<(
             answer.len(),
         )
     };
-    told(&told_by)
+    told(answered.number, answered.place)
 }
 
 // The refusal that an answer tells, if it tells one.
-fn told(answer: &Answer) -> Result<(), Refusal> {
-    match answer.number {
+fn told(number: u32, place: u64) -> Result<(), Refusal> {
+    match number {
         0 => Ok(()),
-        number => Err(Refusal {
-            number,
-            place: answer.place,
-        }),
+        number => Err(Refusal { number, place }),
     }
 }
 

@@ -1,5 +1,5 @@
 //! Formulas nested as deep as a table can have them, on a thread with 2 MB of stack.
-use rangecheck::{check, run, Refusal};
+use rangecheck::{check, propose, run, Refusal};
 
 const NODES: usize = 1024;
 
@@ -65,7 +65,8 @@ fn proposal(before: (i32, i32), after: (i32, i32)) -> Vec<i32> {
     [&head[..], &lows, &highs].concat()
 }
 
-/// The variable, 0 at the start, lies in the first row; in the second it lies afterwards, and in none that lacks an end. A run brings it to the value.
+/// The variable, 0 at the start, lies in the first row; in the second it lies afterwards, and in none that lacks an end. What is proposed is accepted, and a
+/// run brings it to the value.
 fn answers(table: Vec<i32>, before: (i32, i32), after: (i32, i32), value: i32) {
     let thread = std::thread::Builder::new().stack_size(2 << 20);
     let calls = move || {
@@ -77,6 +78,8 @@ fn answers(table: Vec<i32>, before: (i32, i32), after: (i32, i32), value: i32) {
         assert_eq!(checked(after), Ok(vec![]));
         assert_eq!(checked((after.0 + 1, after.1)), refused);
         assert_eq!(checked((after.0, after.1 - 1)), refused);
+        let proposal = propose(&table, &[]).unwrap();
+        assert_eq!(check(&table, &proposal.words), Ok(vec![]));
         let state = run(&table, &[0]).unwrap();
         assert_eq!((state.points[0], state.values[0]), (1, value));
     };

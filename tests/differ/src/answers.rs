@@ -1,8 +1,8 @@
 //! What both sides say of a case, and all that they write.
 
 use peer::words::Refusal as PeerRefusal;
-use peer::{State, Verdict};
-use rangecheck::{check_into, run_into, Refusal, STATE_WORDS};
+use peer::{Proposed, State, Verdict};
+use rangecheck::{check_into, propose_into, run_into, Refusal, Written, STATE_WORDS};
 use std::fmt::Debug;
 
 /// Words on both sides of a lent slice, which nobody may write.
@@ -12,14 +12,15 @@ const MARGIN: usize = 8;
 /// refusal, of which 17 is left to the room there is.
 pub type Wanted = Result<Vec<[i32; 2]>, PeerRefusal>;
 
-pub struct Answer<T> {
-    /// How many alarms there are, for a run 0, or the refusal.
-    pub said: Result<usize, Refusal>,
+pub struct Answer<T, S = usize> {
+    /// How many alarms there are, for a run 0, for a proposal its words and
+    /// passes, or the refusal.
+    pub said: Result<S, Refusal>,
     /// The lent slice afterwards, between its margins.
     words: Vec<T>,
 }
 
-impl<T> Answer<T> {
+impl<T, S> Answer<T, S> {
     pub fn slice(&self) -> &[T] {
         &self.words[MARGIN..self.words.len() - MARGIN]
     }
@@ -51,6 +52,28 @@ impl Answer<i32> {
                 let list = alarms.as_flattened();
                 lent(&mut words)[..list.len()].copy_from_slice(list);
                 Ok(alarms.len())
+            }
+        };
+        Answer { said, words }
+    }
+}
+
+impl Answer<i32, Written> {
+    pub fn propose(table: &[i32], thresholds: &[i32], room: usize) -> Answer<i32, Written> {
+        let mut words = proposal_words(room);
+        let said = propose_into(table, thresholds, lent(&mut words));
+        Answer { said, words }
+    }
+
+    /// What the peer proposes, or a proposal that is written out, in a buffer
+    /// that it fits.
+    pub fn proposed(proposed: &Result<Proposed, PeerRefusal>, room: usize) -> Answer<i32, Written> {
+        let mut words = proposal_words(room);
+        let said = match proposed {
+            Err(refused) => Err(refusal(*refused)),
+            Ok(Proposed { words: proposal, passes }) => {
+                lent(&mut words)[..proposal.len()].copy_from_slice(proposal);
+                Ok(Written { words: proposal.len(), passes: *passes as u64 })
             }
         };
         Answer { said, words }
@@ -92,6 +115,11 @@ fn alarm_words(room: usize) -> Vec<i32> {
     (1..).map(|place: i32| -place).take(room + 2 * MARGIN).collect()
 }
 
+/// The same for a proposal, which seldom has words like these.
+fn proposal_words(room: usize) -> Vec<i32> {
+    (1..).map(|place: i32| 1_234_500_000 + place).take(room + 2 * MARGIN).collect()
+}
+
 /// The same for a state, whose words are all small.
 fn state_words(room: usize) -> Vec<i64> {
     (1..).map(|place: i64| i64::MIN + place).take(room + 2 * MARGIN).collect()
@@ -103,10 +131,10 @@ fn lent<T>(words: &mut [T]) -> &mut [T] {
 }
 
 /// Says how an answer differs from the wanted one: nothing if it doesn't.
-pub fn differences<T: PartialEq + Debug>(
+pub fn differences<T: PartialEq + Debug, S: PartialEq + Debug>(
     what: &str,
-    got: &Answer<T>,
-    want: &Answer<T>,
+    got: &Answer<T, S>,
+    want: &Answer<T, S>,
 ) -> Vec<String> {
     let mut found = Vec::new();
     if got.said != want.said {

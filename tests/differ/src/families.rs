@@ -1,4 +1,4 @@
-//! Families of cases: for each sentence of document 01 and of requests 1 to 3
+//! Families of cases: for each sentence of document 01 and of requests 1 to 4
 //! some with the answer written out, and drawn ones whose answer is the peer's.
 //! Whole answers are compared, and every word of a lent slice.
 
@@ -11,6 +11,7 @@ mod draw;
 mod lines;
 mod pairs;
 mod program;
+mod proposals;
 mod remainders;
 mod rooms;
 mod runs;
@@ -40,6 +41,7 @@ const FAMILIES: &[(&str, Family)] = &[
     ("tested", tested::run),
     ("pairs", pairs::run),
     ("agreement", agreement::run),
+    ("proposals", proposals::run),
     ("tower", tower::run),
 ];
 

@@ -1,6 +1,8 @@
-//! The given vectors: lines of two parts of words and an answer, apart by `|`.
+//! The given vectors: lines of two parts of words and an answer, apart by `|`;
+//! those of proposals have the room before the answer.
 
 use super::checks::Check;
+use super::proposals::Proposal;
 use super::runs::Run;
 use peer::words::parse;
 
@@ -18,12 +20,26 @@ const RUNS: [&str; 3] = [
     include_str!("../../../vectors/after-request-2/run.txt"),
 ];
 
+const PROPOSALS: &str = include_str!("../../../vectors/after-request-4/propose.txt");
+
 pub fn checks() -> Vec<Check> {
     parts(CHECKS).map(|(table, proposal, answer)| Check::new(table, proposal, answer)).collect()
 }
 
 pub fn runs() -> Vec<Run> {
     parts(RUNS).map(|(table, schedule, answer)| Run::told(table, schedule, answer)).collect()
+}
+
+/// With the room of each.
+pub fn proposals() -> Vec<(Proposal, usize)> {
+    let words = |text: &str| parse(text).expect("words");
+    let proposal = |line: &'static str| {
+        let parts: Vec<&str> = line.split('|').map(str::trim).collect();
+        let [table, thresholds, room, answer] = parts[..] else { panic!("four parts: {line}") };
+        let proposal = Proposal::told(words(table), words(thresholds), answer);
+        (proposal, room.parse().expect("a room"))
+    };
+    PROPOSALS.lines().map(proposal).collect()
 }
 
 type Parts = (Vec<i32>, Vec<i32>, &'static str);
