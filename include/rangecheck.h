@@ -18,7 +18,7 @@
 #include <stdint.h>
 
 /* The version of the whole repository, which stands here alone: 1, the last request of document 02 that is in it, and what was mended since. */
-#define RANGECHECK_VERSION "1.3.1"
+#define RANGECHECK_VERSION "1.4.0"
 
 #ifdef __cplusplus
 extern "C" {
