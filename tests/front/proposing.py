@@ -1,5 +1,5 @@
 """Proposals: texts with a proposal put in, thresholds, refusals with their places, checks of texts without a proposal, and a call that takes long."""
-import os, random, re, signal, subprocess
+import os, random, re, signal, subprocess, threading
 from .common import (
     BARE, BARE_PROPOSAL, BARE_TEXT, BY_HAND, COMMAND, DRAWN, LIBRARY, MAX, MIN, ROOT, SOUND, SOUND_PROPOSAL, TEXT, as_bytes, contents, example, expect, folder_of, holds, json_of, put,
     raised, text_of, tower, tried,
@@ -380,6 +380,16 @@ def taking_long():
             expect("%s can be interrupted" % (options,), (out, ended, running.returncode), (b"", b"interrupted\n", 2))
             tried("calls that take long")
         expect("what is there then", (contents(path("old")), sorted(os.listdir(folder))), (b"old\n", ["long.txt", "old"]))
+
+    def no_room(thread):
+        raise RuntimeError("can't start new thread")
+
+    start, threading.Thread.start = threading.Thread.start, no_room
+    try:
+        expect("propose without room for a thread", tower("propose", given=ALONE.encode()), (b"", "there isn't enough memory for this input\n", 2))
+    finally:
+        threading.Thread.start = start
+    expect("threads have the room that they had", threading.stack_size(), 0)
 
 
 def proposing():

@@ -43,6 +43,8 @@ def watched(call, *arguments, tell=say):
     try:
         thread = threading.Thread(target=made, daemon=True)
         thread.start()
+    except RuntimeError:
+        raise MemoryError from None
     finally:
         threading.stack_size(before)
     began = time.monotonic()
