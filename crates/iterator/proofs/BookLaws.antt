@@ -24,10 +24,11 @@ use Rattle.table.specs.Passes.{Passes}
 use Rattle.proposer.specs.Fold.{concatBelow, those}
 use Rattle.proposer.specs.Walk.{setsOf}
 use Rattle.proposer.specs.Passes.{slotOf, writtenTo}
+use Rattle.proposer.proofs.ThoseLaws.{those-more, those-same, those-few}
 use Rattle.iterator.specs.Plan.{heldIn, codeCount, codeAt, isAssign, isSlot, slotsOf, slotBy, Indexed, Planned}
 use Rattle.iterator.specs.Book.{Book, bookOf, notedIn, fileBy, fileIf, enteredIn}
 use Rattle.iterator.proofs.ClearLaws.{getD-equal}
-use Rattle.iterator.proofs.FilingLaws.{firstBad-same, firstBad-here, firstBad-stays, those-other, those-more, those-few}
+use Rattle.iterator.proofs.FilingLaws.{firstBad-same, firstBad-here, firstBad-stays}
 use Rattle.iterator.proofs.FilingLaws.{apart, apart-other, apart-here, apart-elsewhere, first-slot, first-is, later-slot, later-is, other-is}
 
 -- ---- as the code files: by a test whether the index has 0, by one less than what it has
@@ -176,7 +177,7 @@ module _ (t : List ℤ) (h : ℕ → ℕ) where
     -- no assignment: the list is as it was
     other-next : isAssign (pointOf (pointsOf t) p) ≡ false → Next (bookOf noted (b .index) (b .count))
     other-next e =
-        let same = those-other (isSlot t h) p (other-is t h p e) in
+        let same = those-same (isSlot t h) p (other-is t h p e) in
         record {
           size = noted-long;
           heads = m .heads;
@@ -207,7 +208,7 @@ module _ (t : List ℤ) (h : ℕ → ℕ) where
       unfolding slotBy
       later-next q w =
           let at : firstBad (apart t h head) p ≡ At q = sym (m .index head code) ∙ ap slotBy w in
-          let same = those-other (isSlot t h) p (later-is t h p e below q at) in
+          let same = those-same (isSlot t h) p (later-is t h p e below q at) in
           record {
             size = length-set noted (512 + p) q ∙ noted-long;
             heads = m .heads;
@@ -239,7 +240,7 @@ module _ (t : List ℤ) (h : ℕ → ℕ) where
             index = λ c l. elim (ℕ-discrete head c) [
               | yes f ↦ subst (λ (c : ℕ). slotBy (getD (set (b .index) head (p + 1)) c 0) ≡ firstBad (apart t h c) (suc p)) f
                   (ap slotBy (getD-set-same (b .index) head (p + 1) 0 (omega (arith, m .heads)) ∙ add-one p)
-                  ∙ sym (firstBad-here (apart t h head) p at (apart-here t h p e)))
+                  ∙ sym (firstBad-here (apart t h head) p (suc p) (omega arith) at (apart-here t h p e)))
               | no d ↦ ap slotBy (getD-set-other (b .index) head c (p + 1) 0 (λ f. d (sym f))) ∙ elsewhere c l d
             ];
             count = omega (arith, m .count, ap length more, length-append (those (isSlot t h) p) (p ∷ []));

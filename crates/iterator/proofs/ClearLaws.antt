@@ -1,22 +1,22 @@
 -- An array of zeros has no row at any place, and clearing word 0 only says that nothing moved.
 -- Assumes nothing.
-use Prim.Native.Nat.{ℕ, _+_, _<_}
-use mathlib.Core.Path.{_≡_, refl, sym, fun-ext, _∙_}
+use Prim.Native.Nat.{ℕ, _+_}
+use mathlib.Core.Path.{_≡_, refl, fun-ext}
 use mathlib.Core.Bool.{false}
 use mathlib.Core.List.{List, [], _∷_}
 use native.Mathlib.Decide.{decLt}
 use native.Mathlib.Omega.{arith}
 use lib.IntN.{ℤ, pos}
 use lib.ListN.{getD, set, replicate, length-replicate, getD-replicate, List·getD-eq-default}
-use lib.Seq.{ext-getD, drop-set-lt, getD-set-other}
+use lib.Seq.{drop-set-lt, getD-set-other}
 use Rattle.words.specs.Words.{wordOf}
 use Rattle.words.specs.Tabulate.{tabulate}
-use Rattle.words.proofs.FillLaws.{length-tabulate, getD-tabulate}
 use Rattle.interval.specs.Integer.{eqZ}
 use Rattle.analysis.specs.Rows.{none, maybeBy}
 use Rattle.proposer.specs.Widen.{Places}
 use Rattle.proposer.specs.Passes.{quiet}
 use Rattle.iterator.specs.Arrays.{lowsAt, highsAt, placeAt, placesIn}
+use Rattle.iterator.proofs.TabulateLaws.{tabulate-equal}
 
 -- an element of equal ones, or past them: the same
 pub getD-equal : {A : Type 0} (n i : ℕ) (x : A) → getD (replicate n x) i x ≡ x
@@ -33,11 +33,7 @@ pub zeros-nowhere : (n c m : ℕ) → placesIn n c (replicate m (pos 0)) ≡ now
 unfolding placesIn maybeBy eqZ
 zeros-nowhere n c m =
     let zeros = replicate m (pos 0) in
-    let at : tabulate (placeAt n c zeros) c ≡ replicate c none =
-    ext-getD none (tabulate (placeAt n c zeros) c) (replicate c none) (length-tabulate (placeAt n c zeros) c ∙ sym (length-replicate c none)) (λ k l.
-    let below : k < c = omega (arith, length-tabulate (placeAt n c zeros) c) in
-    getD-tabulate (placeAt n c zeros) c k none below ∙ rw (getD-equal m (1 + k) (pos 0)) (sym (getD-equal c k none)))
-    in
+    let at : tabulate (placeAt n c zeros) c ≡ replicate c none = tabulate-equal (placeAt n c zeros) c none (λ k _. rw (getD-equal m (1 + k) (pos 0)) refl) in
     rw (at, getD-equal m 0 (pos 0))
 
 -- ---- word 0 cleared: nothing moved, and the places are as they were

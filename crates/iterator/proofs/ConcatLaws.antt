@@ -8,10 +8,10 @@ use native.Mathlib.Numerals.{add-one}
 use native.Mathlib.Decide.{ℕ-discrete}
 use native.Mathlib.Omega.{arith}
 use lib.ListN.{length, getD, length-append}
-use lib.Seq.{ext-getD}
 use Rattle.words.specs.Tabulate.{tabulate}
-use Rattle.words.proofs.FillLaws.{length-tabulate, getD-tabulate, tabulate-front}
+use Rattle.words.proofs.FillLaws.{tabulate-front}
 use Rattle.proposer.specs.Fold.{concatBelow}
+use Rattle.iterator.proofs.TabulateLaws.{tabulate-list}
 
 module _ {A : Type 0} where
   pub concat-more : (f : ℕ → List A) (n : ℕ) → concatBelow f (n + 1) ≡ concatBelow f n ++ f n
@@ -53,7 +53,4 @@ module _ {A : Type 0} where
   map-concat f l d = map-tabulate f l d ∙ tabulate-concat (λ i. f (getD l i d)) (length l)
 
   pub list-concat : (l : List A) (d : A) → concatBelow (λ i. getD l i d ∷ []) (length l) ≡ l
-  list-concat l d =
-      sym (tabulate-concat (λ i. getD l i d) (length l))
-      ∙ ext-getD d _ l (length-tabulate (λ i. getD l i d) (length l)) (λ i h.
-      getD-tabulate (λ i. getD l i d) (length l) i d (omega (arith, length-tabulate (λ i. getD l i d) (length l))))
+  list-concat l d = sym (tabulate-concat (λ i. getD l i d) (length l)) ∙ tabulate-list l (length l) d refl

@@ -8,11 +8,11 @@ use native.Mathlib.Nat.{not-suc-le-zero, le-of-suc-le-suc}
 use native.Mathlib.Omega.{arith}
 use lib.IntN.{ℤ, pos}
 use lib.ListN.{length, take, drop, replicate, length-take, length-replicate}
-use Rattle.analysis.specs.Rows.{rowOf, maybeBy}
+use Rattle.analysis.specs.Rows.{rowOf}
 use Rattle.proposer.specs.Passes.{rowIn}
 use Rattle.iterator.specs.Arrays.{lowsAt, highsAt, isThere, rowAt, placesIn}
 use Rattle.iterator.specs.Write.{endsOf, rowEnds}
-use Rattle.iterator.proofs.PlacesLaws.{placeIn-at}
+use Rattle.iterator.proofs.PlacesLaws.{place-none, place-some}
 
 pub zeros-take : (n m : ℕ) → n ≤ m → take n (replicate m (pos 0)) ≡ replicate n (pos 0)
 zeros-take zero m h = refl
@@ -26,12 +26,12 @@ ends-zero false l = refl
 
 module _ (high : Bool) (n c : ℕ) (ws : List ℤ) (k : ℕ) (below : k < c) where
   pub ends-none : isThere ws k ≡ false → rowEnds high n (placesIn n c ws) k ≡ replicate n (pos 0)
-  unfolding rowIn maybeBy
-  ends-none e = rw (placeIn-at n c ws k below, e) (ends-zero high (replicate n (pos 0)))
+  unfolding rowIn
+  ends-none e = rw (place-none n c ws k below e) (ends-zero high (replicate n (pos 0)))
 
   pub ends-some : isThere ws k ≡ true → rowEnds high n (placesIn n c ws) k ≡ endsOf high (rowAt n c ws k)
-  unfolding rowIn maybeBy
-  ends-some e = rw (placeIn-at n c ws k below, e) refl
+  unfolding rowIn
+  ends-some e = rw (place-some n c ws k below e) refl
 
   part-few : (b : Bool) → length (endsOf b (rowAt n c ws k)) ≤ n
   unfolding endsOf

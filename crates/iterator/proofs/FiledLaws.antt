@@ -2,45 +2,30 @@
 -- Assumes nothing.
 use Prim.Native.Nat.{ℕ, _+_}
 use mathlib.Core.Path.{_≡_, refl, sym, ap, _∙_}
-use mathlib.Core.Bool.{Bool, true, false, not}
+use mathlib.Core.Bool.{Bool, false}
 use mathlib.Core.List.{List, [], _∷_}
-use borrow.Author.Tests.{eq-eqb, eqb-true, not-false}
 use lib.IntN.{ℤ}
 use Rattle.words.specs.declared.Found.{Found}
 use Rattle.words.specs.declared.Found.the-variants.{Nothing, At}
 use Rattle.words.proofs.Bools.{clash}
-use Rattle.words.proofs.FirstLaws.{firstBad-smallest}
 use Rattle.interval.specs.declared.Interval.{Interval}
 use Rattle.interval.specs.declared.Interval.the-variants.{None, Between}
-use Rattle.table.specs.Layout.{sizesOf, pointsOf, taskOf}
+use Rattle.table.specs.Layout.{sizesOf, pointsOf}
 use Rattle.table.specs.Decode.{pointOf}
 use Rattle.table.specs.declared.Point.{Point}
 use Rattle.table.specs.declared.Point.the-variants.{End, Assign, Test, Lock, Unlock}
 use Rattle.analysis.specs.Rows.{Row, rowOf, Maybe, none, some}
 use Rattle.proposer.specs.Fold.{foldBelow}
 use Rattle.proposer.specs.Widen.{Places, placeIn}
-use Rattle.proposer.specs.Passes.{State, begun, filesAt, slotOf, entryInto, disturb, unguarded, fileIn, filedBy, leaveBy, leave, visit, restVisit, passOf}
+use Rattle.proposer.specs.Passes.{State, begun, slotOf, entryInto, disturb, unguarded, fileIn, filedBy, leaveBy, leave, visit, restVisit, passOf}
 use Rattle.proposer.proofs.ListLaws.{fold-keeps}
-use Rattle.iterator.specs.Plan.{codeAt, isAt, isAssign, slotIf, isSlot, Filed}
-use Rattle.iterator.proofs.FilingLaws.{files-assign, files-other}
+use Rattle.iterator.specs.Plan.{isSlot, Filed}
+use Rattle.iterator.proofs.FilingLaws.{slot-is}
 use Rattle.iterator.proofs.KeptLaws.{take-other}
 use Rattle.iterator.proofs.IntoLaws.{into-entries}
 
--- ---- where writes are filed there is a slot
-module _ (t : List ℤ) (h : ℕ → ℕ) (c q : ℕ) (found : slotOf t h c ≡ At q) where
-  slot-files : filesAt t h c q ≡ true
-  unfolding slotOf
-  slot-files = not-false _ (firstBad-smallest (λ p. not (filesAt t h c p)) (sizesOf t .points) q found .fails)
-
-  pub slot-is : isSlot t h q ≡ true
-  unfolding isSlot slotIf isAt
-  slot-is = by (isAssign (pointOf (pointsOf t) q)) refl
-    where
-      by : (b : Bool) → isAssign (pointOf (pointsOf t) q) ≡ b → isSlot t h q ≡ true
-      by false e = clash (sym slot-files ∙ files-other t (pointOf (pointsOf t) q) (taskOf t q) (h q) c e)
-      by true e =
-          let code : codeAt t h q ≡ c = eqb-true _ _ (sym (files-assign t (pointOf (pointsOf t) q) (taskOf t q) (h q) c e) ∙ slot-files) in
-          rw (e, code, found) (eq-eqb q q refl)
+pub begun-filed : (t : List ℤ) (h : ℕ → ℕ) (s : State) → Filed t h s → Filed t h (begun s)
+begun-filed t h s f = record { elsewhere = f .elsewhere }
 
 module _ (t ts : List ℤ) (h : ℕ → ℕ) where
   -- ---- an entry taken into a row
@@ -86,10 +71,7 @@ module _ (t ts : List ℤ) (h : ℕ → ℕ) where
   unfolding restVisit unguarded
   restVisit-filed s m = into-all-filed _ (sizesOf t .points + m) (sizesOf t .points) s
 
-  pub begun-filed : (s : State) → Filed t h s → Filed t h (begun s)
-  begun-filed s f = record { elsewhere = f .elsewhere }
-
   pub pass-filed : (s : State) → Filed t h s → Filed t h (passOf t ts h s)
   unfolding passOf
   pass-filed s f =
-      fold-keeps (Filed t h) (restVisit t ts h) (sizesOf t .mutexes) (λ m _ x. restVisit-filed x m) _ (visits-filed (sizesOf t .points) (begun s) (begun-filed s f))
+      fold-keeps (Filed t h) (restVisit t ts h) (sizesOf t .mutexes) (λ m _ x. restVisit-filed x m) _ (visits-filed (sizesOf t .points) (begun s) (begun-filed t h s f))

@@ -1,25 +1,24 @@
 -- Under which head a point is filed, and where the entry of a head stands, as points are gone through.
 -- Assumes nothing.
-use Prim.Native.Nat.{ℕ, zero, suc, _<_, _≤_}
-use mathlib.Core.Path.{_≡_, refl, sym, ap}
+use Prim.Native.Nat.{ℕ, suc, _<_, _≤_}
+use mathlib.Core.Path.{_≡_, refl, sym, _∙_}
 use mathlib.Core.Bool.{Bool, true, false, not}
-use mathlib.Core.List.{List, [], _∷_, _++_, append-nil}
+use mathlib.Core.List.{List}
 use native.Mathlib.Omega.{arith}
 use borrow.Author.Tests.{eq-eqb, ne-eqb}
 use lib.Dec.{eqb}
 use lib.IntN.{ℤ}
-use lib.ListN.{length, length-append}
 use Rattle.words.specs.declared.Found.{Found}
 use Rattle.words.specs.declared.Found.the-variants.{Nothing, At}
 use Rattle.words.specs.First.{unless, orElse, firstBad}
 use Rattle.words.proofs.Bools.{clash}
-use Rattle.words.proofs.FirstLaws.{firstBad-smallest, smallest-firstBad}
+use Rattle.words.proofs.FirstLaws.{stop, firstBad-smallest, smallest-firstBad}
 use Rattle.table.specs.Layout.{sizesOf, pointsOf, taskOf}
 use Rattle.table.specs.Decode.{pointOf}
 use Rattle.table.specs.declared.Point.{Point}
 use Rattle.table.specs.declared.Point.the-variants.{End, Assign, Test, Lock, Unlock}
-use Rattle.proposer.specs.Fold.{concatBelow, thoseIf, those}
 use Rattle.proposer.specs.Passes.{codeOf, filesBy, filesAt, slotOf, writtenTo}
+use Rattle.proposer.proofs.SlotLaws.{slot-files, slot-code}
 use Rattle.iterator.specs.Plan.{codeAt, isAt, isAssign, slotIf, isSlot}
 
 -- ---- assignments are filed, under the head of what they write
@@ -48,33 +47,22 @@ firstBad-same f p e = rw e (same (firstBad f p))
     same Nothing = refl
     same (At q) = refl
 
-pub firstBad-here : (f : ℕ → Bool) (p : ℕ) → firstBad f p ≡ Nothing → f p ≡ false → firstBad f (suc p) ≡ At p
-unfolding firstBad orElse unless
-firstBad-here f p n e = rw (n, e)
+pub firstBad-here : (f : ℕ → Bool) (p n : ℕ) → p < n → firstBad f p ≡ Nothing → f p ≡ false → firstBad f n ≡ At p
+firstBad-here f p n l none e = sym (stop (record { within = omega arith; none = none }) l e)
 
 pub firstBad-stays : (f : ℕ → Bool) (p n q : ℕ) → p ≤ n → firstBad f p ≡ At q → firstBad f n ≡ At q
 firstBad-stays f p n q l e =
     let s = firstBad-smallest f p q e in
     smallest-firstBad f n q (record { below = omega (arith, s .below); fails = s .fails; earlier = s .earlier })
 
--- ---- the numbers that a test holds of, one number further
-module _ (f : ℕ → Bool) where
-  pub those-other : (p : ℕ) → f p ≡ false → those f (suc p) ≡ those f p
-  unfolding those concatBelow thoseIf
-  those-other p e = rw e (append-nil (those f p))
-
-  pub those-more : (p : ℕ) → f p ≡ true → those f (suc p) ≡ those f p ++ (p ∷ [])
-  unfolding those concatBelow thoseIf
-  those-more p e = rw e
-
-  pub those-few : (p : ℕ) → length (those f p) ≤ p
-  unfolding those concatBelow
-  those-few zero = omega arith
-  those-few (suc p) = by (f p) refl (those-few p)
-    where
-      by : (b : Bool) → f p ≡ b → length (those f p) ≤ p → length (those f (suc p)) ≤ suc p
-      by true e l = omega (arith, ap length (those-more p e), length-append (those f p) (p ∷ []))
-      by false e l = omega (arith, ap length (those-other p e))
+-- ---- where writes are filed there is a slot
+pub slot-is : (t : List ℤ) (h : ℕ → ℕ) (c q : ℕ) → slotOf t h c ≡ At q → isSlot t h q ≡ true
+unfolding isSlot slotIf isAt
+slot-is t h c q found = by (isAssign (pointOf (pointsOf t) q)) refl
+  where
+    by : (b : Bool) → isAssign (pointOf (pointsOf t) q) ≡ b → isSlot t h q ≡ true
+    by false e = clash (sym (slot-files t h c q found) ∙ files-other t (pointOf (pointsOf t) q) (taskOf t q) (h q) c e)
+    by true e = rw (e, slot-code t h c q found, found) (eq-eqb q q refl)
 
 -- ---- the point p, by what stands there and by where the entry of its head stands so far
 module _ (t : List ℤ) (h : ℕ → ℕ) where
@@ -97,11 +85,10 @@ module _ (t : List ℤ) (h : ℕ → ℕ) where
       module _ (first : firstBad (apart (codeAt t h p)) p ≡ Nothing) where
         pub first-slot : slotOf t h (codeAt t h p) ≡ At p
         unfolding slotOf
-        first-slot = firstBad-stays (apart (codeAt t h p)) (suc p) (sizesOf t .points) p below (firstBad-here (apart (codeAt t h p)) p first apart-here)
+        first-slot = firstBad-here (apart (codeAt t h p)) p (sizesOf t .points) below first apart-here
 
         pub first-is : isSlot t h p ≡ true
-        unfolding isSlot slotIf isAt
-        first-is = rw (e, first-slot) (eq-eqb p p refl)
+        first-is = slot-is t h (codeAt t h p) p first-slot
 
       -- one after the first
       module _ (q : ℕ) (later : firstBad (apart (codeAt t h p)) p ≡ At q) where

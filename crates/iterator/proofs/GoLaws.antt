@@ -1,7 +1,7 @@
 -- Where each kind of instruction leads from a point p with the held set s, and what it marks there; n is the number of sets, as the code has it.
 -- Assumes nothing.
-use Prim.Native.Nat.{ℕ, _+_, _-_, _*_, _/_, _%_, _^_, _<_, _≤_}
-use mathlib.Core.Path.{_≡_, refl, sym, subst, _∙_}
+use Prim.Native.Nat.{ℕ, _+_, _-_, _/_, _%_, _^_, _<_, _≤_}
+use mathlib.Core.Path.{_≡_, sym, subst}
 use mathlib.Core.Bool.{Bool, true, false, not, _||_}
 use mathlib.Core.List.{List}
 use native.Mathlib.Nat.{mod-lt, le-of-lt}
@@ -22,12 +22,8 @@ use Rattle.proposer.specs.Walk.{goesIf, goesOf, setsOf, markAt, markCount, mark
 use Rattle.proposer.proofs.CodeLaws.{left-below}
 use Rattle.iterator.specs.Arrays.{marksIn}
 use Rattle.iterator.specs.Marks.{From, Marked}
-use Rattle.iterator.proofs.HeldSetLaws.{disjoint-one}
+use Rattle.iterator.proofs.HeldSetLaws.{shl, told-is}
 use Rattle.iterator.proofs.MarkLaws.{MarkAsks, MarkGives, from-asks, from-gives, mark-is, marked-same, marked-then}
-
--- `1 << m`
-abbrev pub shl : ℕ → ℕ
-shl m = 1 * 2 ^ m % 2 ^ 64
 
 module _ {t : List ℤ} {n p s : ℕ} (from : From t n p s) where
   formed : (x : Point) → pointOf (pointsOf t) p ≡ x → FormedPoint t p x
@@ -78,13 +74,7 @@ module _ {t : List ℤ} {n p s : ℕ} (from : From t n p s) where
 
     -- what `disjoint` tells of it
     told : (b : Bool) → disjointOf s (shl m) ≡ b → hasOf s m ≡ not b
-    told b e = by (hasOf s m) b (sym (disjoint-one s m few) ∙ subst (λ (x : ℕ). disjointOf s x ≡ b) shifted e)
-      where
-        by : (h b : Bool) → not h ≡ b → h ≡ not b
-        by true true q = sym q
-        by true false q = refl
-        by false true q = refl
-        by false false q = sym q
+    told b e = told-is s m few (sym e)
 
   module _ {m q : ℕ} (e : pointOf (pointsOf t) p ≡ Lock m q) where
     lock-formed : (m < sizesOf t .mutexes) × (q < sizesOf t .points)
@@ -146,10 +136,10 @@ module _ {t : List ℤ} {n p s : ℕ} (from : From t n p s) where
       unlock-gone k = rw (e, unlocked, told m (unlock-formed .0) false held) (from-gives unlock-to k)
 
 -- ---- from the mark i
-module _ (t : List ℤ) (n i : ℕ) (sets : n ≡ setsOf t) (below : i < markCount t) where
-  pub set-pos : 0 < n
-  set-pos = rw sets (pow-pos (sizesOf t .mutexes))
+pub set-pos : (t : List ℤ) (n : ℕ) → n ≡ setsOf t → 0 < n
+set-pos t n sets = rw sets (pow-pos (sizesOf t .mutexes))
 
+module _ (t : List ℤ) (n i : ℕ) (sets : n ≡ setsOf t) (below : i < markCount t) where
   pub mark-from : Passes t → From t n (i / n) (i % n)
   mark-from passes =
       record {

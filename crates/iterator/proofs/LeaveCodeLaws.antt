@@ -1,6 +1,6 @@
 -- From what the calls of a function that leaves a point give to what leaving it comes to: the laws that end in `-left` are about one `return` each.
 -- Assumes nothing.
-use Prim.Native.Nat.{ℕ, _+_, _*_, _%_, _^_, _<_, _≤_}
+use Prim.Native.Nat.{ℕ, _+_, _<_, _≤_}
 use mathlib.Core.Path.{_≡_, refl, sym, ap, _∙_}
 use mathlib.Core.Bool.{Bool, true, false, not}
 use mathlib.Core.List.{List}
@@ -8,11 +8,10 @@ use native.Mathlib.Decide.{ℕ-discrete}
 use native.Mathlib.Omega.{arith}
 use lib.IntN.{ℤ, pos}
 use lib.ListN.{length, getD, set}
-use lib.Seq.{getD-take, getD-set-same, getD-set-other}
+use lib.Seq.{getD-set-same, getD-set-other}
 use Rattle.words.specs.Words.{wordOf}
 use Rattle.words.specs.First.{allBelow}
 use Rattle.words.specs.declared.Found.the-variants.{At}
-use Rattle.words.proofs.FirstLaws.{firstBad-smallest}
 use Rattle.interval.specs.declared.Interval.{Interval}
 use Rattle.interval.specs.declared.Interval.the-variants.{Between}
 use Rattle.table.specs.Layout.{sizesOf, pointsOf, nodesOf, taskOf}
@@ -29,15 +28,15 @@ use Rattle.analysis.proofs.RowLaws.{slots-within}
 use Rattle.analysis.proofs.RowCodeLaws.{put-in, left-again}
 use Rattle.rules.specs.Held.{hasOf, disjointOf}
 use Rattle.rules.specs.Outcomes.{writtenOf, outcomeIf}
-use Rattle.rules.proofs.HeldLaws.{shl-is}
 use Rattle.rules.proofs.RowLaws.{slots-length}
 use Rattle.proposer.specs.Widen.{Places, placeIn, takeIn}
 use Rattle.proposer.specs.Passes.{State, rowIn as stateRow, codeOf, slotOf, writtenTo, takeAll, fileIn, leaveBy, leave}
+use Rattle.proposer.proofs.SlotLaws.{slot-below}
 use Rattle.iterator.specs.Arrays.{isThere, rowsIn, entriesIn, stateIn}
 use Rattle.iterator.specs.Plan.{heldIn, isAssign, Planned}
 use Rattle.iterator.specs.Leave.{leftBy, tableRow, Carries, meetsAt, MetTo}
 use Rattle.iterator.proofs.PlacesLaws.{take-agree, place-some}
-use Rattle.iterator.proofs.HeldSetLaws.{disjoint-one}
+use Rattle.iterator.proofs.HeldSetLaws.{shl, told-is, held-is}
 use Rattle.iterator.proofs.OwnLaws.{take-carried}
 use Rattle.iterator.proofs.MeetLaws.{meet-none, meet-is, met-low, met-high}
 use Rattle.iterator.proofs.LeaveLaws as laws
@@ -46,15 +45,8 @@ same-state : {a b c d : Places} → a ≡ b → c ≡ d → _≡_ {A = State} (r
 same-state e f = rw (e, f) refl
 
 -- ---- the test of one mutex
-module _ (plan : List ℕ) (p m : ℕ) {r : Bool} where
-  pub held-is : p < 256 → m < 8 → r ≡ disjointOf (getD plan p 0) (1 * 2 ^ m % 2 ^ 64) → hasOf (heldIn plan p) m ≡ not r
-  held-is h k e =
-      ap (λ (s : ℕ). hasOf s m) (getD-take 256 plan p 0 h)
-      ∙ turned (hasOf (getD plan p 0) m) (e ∙ ap (λ (s : ℕ). disjointOf (getD plan p 0) s) (shl-is m (omega arith)) ∙ disjoint-one (getD plan p 0) m k)
-    where
-      turned : (b : Bool) → r ≡ not b → b ≡ not r
-      turned true e = rw e refl
-      turned false e = rw e refl
+pub mutex-is : (plan : List ℕ) (p m : ℕ) {r : Bool} → p < 256 → m < 8 → r ≡ disjointOf (getD plan p 0) (shl m) → hasOf (heldIn plan p) m ≡ not r
+mutex-is plan p m h k e = ap (λ (s : ℕ). hasOf s m) (held-is plan p h) ∙ told-is (getD plan p 0) m k e
 
 -- ---- an assignment of the node e to v
 pub written-is : {t ws ns : List ℤ} {x : Row} (e : ℕ) {w : Interval} → Carries t ws x → ns ≡ nodesOf t → w ≡ valueOf (arithAt ns e) (rowIn ws)
@@ -73,8 +65,7 @@ put-agree l n v z size h few i j =
       | no d ↦ getD-set-other (slotsOf l) v i z (pos 0) d ∙ slots-within l i (omega arith) ∙ sym (getD-set-other l v i z (pos 0) d)
     ]
 
-module _ {t : List ℤ} {plan : List ℕ} {v e q : ℕ} (passes : Passes t) (planned : Planned t plan) (p : ℕ) (below : p < sizesOf t .points)
-    (stands : pointOf (pointsOf t) p ≡ Assign v e q) where
+module _ {t : List ℤ} {v e q : ℕ} (passes : Passes t) (p : ℕ) (below : p < sizesOf t .points) (stands : pointOf (pointsOf t) p ≡ Assign v e q) where
   assign-formed : FormedPoint t p (Assign v e q)
   assign-formed = rw stands at (passes .point p below)
 
@@ -89,32 +80,32 @@ module _ {t : List ℤ} {plan : List ℕ} {v e q : ℕ} (passes : Passes t) (pla
   unfolding FormedPoint
   target-below = assign-formed .2 .point
 
-  slot-is : slotOf t (heldIn plan) (codeOf t (taskOf t p) (heldIn plan p) v) ≡ At (getD plan (512 + p) 0)
-  unfolding writtenTo isAssign
-  slot-is = rw stands at (planned .slot p below (rw stands refl))
+  module _ {plan : List ℕ} (planned : Planned t plan) where
+    slot-is : slotOf t (heldIn plan) (codeOf t (taskOf t p) (heldIn plan p) v) ≡ At (getD plan (512 + p) 0)
+    unfolding writtenTo isAssign
+    slot-is = rw stands at (planned .slot p below (rw stands refl))
 
-  pub slot-below : getD plan (512 + p) 0 < sizesOf t .points
-  unfolding slotOf
-  slot-below = firstBad-smallest _ _ _ slot-is .below
+    pub filed-below : getD plan (512 + p) 0 < sizesOf t .points
+    filed-below = slot-below t (heldIn plan) _ _ slot-is
 
-  -- lo..hi is written, lo′ and hi′ are the same as the code hands them on
-  pub assign-left : (ts rows rows′ entries entries′ : List ℤ) {ws : List ℤ} {x : Row} {w : Interval} {lo hi lo′ hi′ : ℤ}
-      → Carries t ws x → w ≡ writtenOf t e x → w ≡ Between lo hi → lo′ ≡ lo → hi′ ≡ hi
-      → rowsIn t rows′ ≡ takeIn (sizesOf t .variables) ts (rowsIn t rows) q (rowIn (set (set ws v lo′) (v + 16) hi′))
-      → entriesIn t entries′ ≡ fileIn (Between lo′ hi′) (At (getD plan (512 + p) 0)) ts (entriesIn t entries)
-      → stateIn t rows′ entries′ ≡ leftBy t ts (heldIn plan) (Assign v e q) (stateIn t rows entries) p x
-  assign-left ts rows rows′ entries entries′ {ws} {x} {w} {lo} {hi} own f g a b taken filed =
-      let few = passes .variables .high in
-      let row : Row = rowOf (set (slotsOf (x .lows)) v lo) (set (slotsOf (x .highs)) v hi) in
-      same-state
-      (taken
-      ∙ rw (a, b)
-      (ap (λ (r : Row). takeIn (sizesOf t .variables) ts (rowsIn t rows) q r) (put-in ws v lo hi variable-few)
-      ∙ ap (λ (r : Row). takeIn (sizesOf t .variables) ts (rowsIn t rows) q (rowOf (set (r .lows) v lo) (set (r .highs) v hi))) (own .words)
-      ∙ take-agree (sizesOf t .variables) ts row (rowOf (set (x .lows) v lo) (set (x .highs) v hi))
-      (put-agree (x .lows) _ v lo (own .lows) variable-below few) (put-agree (x .highs) _ v hi (own .highs) variable-below few) (rowsIn t rows) q))
-      (filed ∙ rw (a, b, slot-is) refl)
-      ∙ laws.assign-some t ts (heldIn plan) (stateIn t rows entries) p x v e q (sym f ∙ g)
+    -- lo..hi is written, lo′ and hi′ are the same as the code hands them on
+    pub assign-left : (ts rows rows′ entries entries′ : List ℤ) {ws : List ℤ} {x : Row} {w : Interval} {lo hi lo′ hi′ : ℤ}
+        → Carries t ws x → w ≡ writtenOf t e x → w ≡ Between lo hi → lo′ ≡ lo → hi′ ≡ hi
+        → rowsIn t rows′ ≡ takeIn (sizesOf t .variables) ts (rowsIn t rows) q (rowIn (set (set ws v lo′) (v + 16) hi′))
+        → entriesIn t entries′ ≡ fileIn (Between lo′ hi′) (At (getD plan (512 + p) 0)) ts (entriesIn t entries)
+        → stateIn t rows′ entries′ ≡ leftBy t ts (heldIn plan) (Assign v e q) (stateIn t rows entries) p x
+    assign-left ts rows rows′ entries entries′ {ws} {x} {w} {lo} {hi} own f g a b taken filed =
+        let few = passes .variables .high in
+        let row : Row = rowOf (set (slotsOf (x .lows)) v lo) (set (slotsOf (x .highs)) v hi) in
+        same-state
+        (taken
+        ∙ rw (a, b)
+        (ap (λ (r : Row). takeIn (sizesOf t .variables) ts (rowsIn t rows) q r) (put-in ws v lo hi variable-few)
+        ∙ ap (λ (r : Row). takeIn (sizesOf t .variables) ts (rowsIn t rows) q (rowOf (set (r .lows) v lo) (set (r .highs) v hi))) (own .words)
+        ∙ take-agree (sizesOf t .variables) ts row (rowOf (set (x .lows) v lo) (set (x .highs) v hi))
+        (put-agree (x .lows) _ v lo (own .lows) variable-below few) (put-agree (x .highs) _ v hi (own .highs) variable-below few) (rowsIn t rows) q))
+        (filed ∙ rw (a, b, slot-is) refl)
+        ∙ laws.assign-some t ts (heldIn plan) (stateIn t rows entries) p x v e q (sym f ∙ g)
 
 -- ---- a test of the condition c
 -- a side, by what narrowing left: whether there is a row, and the row
@@ -185,4 +176,4 @@ pub leave-is : (t ts rows entries : List ℤ) (h : ℕ → ℕ) (p : ℕ) {z : P
     → s ≡ leave t ts h (stateIn t rows entries) p
 unfolding leave leaveBy leftBy
 leave-is t ts rows entries h p below e stands f =
-    rw (place-some (sizesOf t .variables) (sizesOf t .points + sizesOf t .mutexes) ts rows p (omega arith) e) (rw (← stands) at f)
+    rw (place-some (sizesOf t .variables) (sizesOf t .points + sizesOf t .mutexes) rows p (omega arith) e) (rw (← stands) at f)

@@ -1,4 +1,5 @@
 pub mod NearestLaws
+pub mod TabulateLaws
 pub mod PlacesLaws
 pub mod StoreLaws
 pub mod TakenLaws

@@ -5,15 +5,13 @@ use mathlib.Core.Path.{_≡_, refl, sym, ap, subst, _∙_}
 use mathlib.Core.Bool.{Bool, true, false, _||_}
 use mathlib.Core.List.{List}
 use native.Mathlib.Nat.{mul-le-mul-right}
-use native.Mathlib.Decide.{ℕ-discrete}
 use native.Mathlib.Omega.{arith}
 use lib.Dec.{eqb}
 use lib.IntN.{ℤ}
-use lib.ListN.{length, getD, set, replicate, length-set, length-replicate, getD-replicate}
-use lib.Seq.{ext-getD, getD-set-same, getD-set-other, set-getD}
-use Rattle.words.specs.Tabulate.{tabulate}
+use lib.ListN.{length, getD, set, replicate, getD-replicate}
+use lib.Seq.{getD-set-same, getD-set-other, set-getD}
 use Rattle.words.proofs.Bools.{clash}
-use Rattle.words.proofs.FillLaws.{length-tabulate, getD-tabulate}
+use Rattle.words.proofs.FillLaws.{getD-tabulate}
 use Rattle.table.specs.Layout.{sizesOf}
 use Rattle.table.specs.Passes.{Passes}
 use Rattle.rules.proofs.SetLaws.{few-small}
@@ -21,6 +19,7 @@ use Rattle.proposer.specs.Walk.{setsOf, markAt, markCount}
 use Rattle.proposer.proofs.CodeLaws.{pair-below}
 use Rattle.iterator.specs.Arrays.{marksIn}
 use Rattle.iterator.specs.Marks.{From, Marked}
+use Rattle.iterator.proofs.TabulateLaws.{tabulate-set, tabulate-equal}
 
 -- what `mark` asks
 abbrev pub MarkAsks : ℕ → ℕ → ℕ → Type 0
@@ -63,22 +62,12 @@ module _ (n : ℕ) (ms : List ℕ) where
   mark-store : (k : ℕ) → k < length ms → k < n → marksIn n (set ms k 1) ≡ set (marksIn n ms) k true
   unfolding marksIn
   mark-store k h l =
-      let f : ℕ → Bool = λ i. eqb (getD ms i 0) 1 in
-      let g : ℕ → Bool = λ i. eqb (getD (set ms k 1) i 0) 1 in
-      ext-getD false _ _ (length-tabulate g n ∙ sym (length-set (tabulate f n) k true ∙ length-tabulate f n)) (λ i li.
-      let below : i < n = omega (arith, length-tabulate g n) in
-      getD-tabulate g n i false below ∙ elim (ℕ-discrete i k) [
-        | yes e ↦ rw (e, getD-set-same ms k 1 0 h) (sym (getD-set-same (tabulate f n) k true false (omega (arith, length-tabulate f n))))
-        | no d ↦ rw (getD-set-other ms k i 1 0 d) (sym (getD-set-other (tabulate f n) k i true false d ∙ getD-tabulate f n i false below))
-      ])
+      tabulate-set (λ i. eqb (getD ms i 0) 1) (λ i. eqb (getD (set ms k 1) i 0) 1) n k true l (rw (getD-set-same ms k 1 0 h) refl)
+      (λ i _ d. rw (getD-set-other ms k i 1 0 d) refl)
 
 pub blank-marks : (n m : ℕ) → n ≤ m → marksIn n (replicate m 0) ≡ replicate n false
 unfolding marksIn
-blank-marks n m h =
-    let f : ℕ → Bool = λ i. eqb (getD (replicate m 0) i 0) 1 in
-    ext-getD false _ _ (length-tabulate f n ∙ sym (length-replicate n false)) (λ i li.
-    let below : i < n = omega (arith, length-tabulate f n) in
-    getD-tabulate f n i false below ∙ rw (getD-replicate {A = ℕ} m i 0 0 (omega arith)) (sym (getD-replicate n i false false below)))
+blank-marks n m h = tabulate-equal (λ i. eqb (getD (replicate m 0) i 0) 1) n false (λ i l. rw (getD-replicate {A = ℕ} m i 0 0 (omega arith)) refl)
 
 -- ---- one mark more: it was there already, or it is stored
 module _ (k : ℕ) (ms : List ℕ) (below : k < length ms) where

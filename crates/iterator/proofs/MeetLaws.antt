@@ -21,7 +21,7 @@ use Rattle.analysis.proofs.RowLaws.{each-is, slots-within}
 use Rattle.rules.specs.Outcomes.{meetRowsOf}
 use Rattle.rules.proofs.RowLaws.{Meets, meet-some, metOf, written-last, written-first, written-neither}
 use Rattle.iterator.specs.Leave.{metLow, metHigh, meetsAt, MetTo}
-use Rattle.iterator.proofs.PlacesLaws.{allBelow-same}
+use Rattle.iterator.proofs.TabulateLaws.{allBelow-same}
 
 -- ---- the loop, with l the array a as it is when k variables are met
 pub record Met (a b : List ℤ) (n k : ℕ) (l : List ℤ) : Type 0 where

@@ -4,33 +4,20 @@
 --     take-new, take-old        a row taken in where there is none, and where there is one
 --     both-none, both-some      an interval of one variable taken in
 -- Assumes nothing.
-use Prim.Native.Nat.{ℕ, zero, suc, _<_}
+use Prim.Native.Nat.{ℕ, _<_}
 use mathlib.Core.Path.{_≡_, refl, ap, _∙_}
 use mathlib.Core.Bool.{Bool, true, false, _&&_}
 use mathlib.Core.List.{List}
-use native.Mathlib.Omega.{arith}
 use lib.IntN.{ℤ}
 use lib.Signed.{leZ}
 use Rattle.words.specs.Words.{wordOf}
-use Rattle.words.specs.First.{allBelow}
-use Rattle.words.specs.Tabulate.{tabulate}
 use Rattle.words.proofs.FillLaws.{getD-tabulate}
 use Rattle.analysis.specs.Rows.{Row, Maybe, none, some, maybeBy}
 use Rattle.proposer.specs.Widen.{coversOf, trimmedOf, widenedOf, Places, placeIn, storeOf, takeIf, takeBy, takeIn}
 use Rattle.proposer.specs.Passes.{withAt, takeBoth}
 use Rattle.iterator.specs.Written.{lowBy, highBy}
 use Rattle.iterator.specs.Arrays.{isThere, rowAt, placeAt, placesIn}
-
--- the same at each place
-pub tabulate-same : {A : Type 0} (f g : ℕ → A) (n : ℕ) → ((i : ℕ) → i < n → f i ≡ g i) → tabulate f n ≡ tabulate g n
-unfolding tabulate
-tabulate-same f g zero h = refl
-tabulate-same f g (suc n) h = rw (tabulate-same f g n (λ i l. h i (omega arith)), h n (omega arith)) refl
-
-pub allBelow-same : (f g : ℕ → Bool) (n : ℕ) → ((i : ℕ) → i < n → f i ≡ g i) → allBelow f n ≡ allBelow g n
-unfolding allBelow
-allBelow-same f g zero h = refl
-allBelow-same f g (suc n) h = rw (allBelow-same f g n (λ i l. h i (omega arith)), h n (omega arith)) refl
+use Rattle.iterator.proofs.TabulateLaws.{tabulate-same, allBelow-same}
 
 pub placeIn-at : (n c : ℕ) (ws : List ℤ) (k : ℕ) → k < c → placeIn (placesIn n c ws) k ≡ placeAt n c ws k
 unfolding placesIn
@@ -75,7 +62,7 @@ module _ (n : ℕ) (ts : List ℤ) (r r′ : Row) (low : (v : ℕ) → v < n →
       by (some s) = ap (λ (b : Bool). takeIf b n ts a k s r) (covers-agree s) ∙ if s (coversOf n s r′)
 
 -- ---- the place k, by its flag
-module _ (n c : ℕ) (ts ws : List ℤ) (k : ℕ) (below : k < c) where
+module _ (n c : ℕ) (ws : List ℤ) (k : ℕ) (below : k < c) where
   pub place-none : isThere ws k ≡ false → placeIn (placesIn n c ws) k ≡ none
   unfolding maybeBy
   place-none e = placeIn-at n c ws k below ∙ ap (λ (b : Bool). maybeBy b (rowAt n c ws k)) e
@@ -84,20 +71,21 @@ module _ (n c : ℕ) (ts ws : List ℤ) (k : ℕ) (below : k < c) where
   unfolding maybeBy
   place-some e = placeIn-at n c ws k below ∙ ap (λ (b : Bool). maybeBy b (rowAt n c ws k)) e
 
+module _ (n c : ℕ) (ts ws : List ℤ) (k : ℕ) (below : k < c) where
   pub take-new : (s : Row) → isThere ws k ≡ false → takeIn n ts (placesIn n c ws) k s ≡ storeOf (placesIn n c ws) k (trimmedOf n s)
   unfolding takeIn takeBy
-  take-new s e = ap (λ (m : Maybe). takeBy m n ts (placesIn n c ws) k s) (place-none e)
+  take-new s e = ap (λ (m : Maybe). takeBy m n ts (placesIn n c ws) k s) (place-none n c ws k below e)
 
   pub take-old : (s : Row) → isThere ws k ≡ true
       → takeIn n ts (placesIn n c ws) k s ≡ takeIf (coversOf n (rowAt n c ws k) s) n ts (placesIn n c ws) k (rowAt n c ws k) s
   unfolding takeIn takeBy
-  take-old s e = ap (λ (m : Maybe). takeBy m n ts (placesIn n c ws) k s) (place-some e)
+  take-old s e = ap (λ (m : Maybe). takeBy m n ts (placesIn n c ws) k s) (place-some n c ws k below e)
 
   pub both-none : (x : Row) (v : ℕ) → isThere ws k ≡ false → takeBoth (some x) (placeIn (placesIn n c ws) k) n ts (placesIn n c ws) k v ≡ placesIn n c ws
   unfolding takeBoth
-  both-none x v e = ap (λ (m : Maybe). takeBoth (some x) m n ts (placesIn n c ws) k v) (place-none e)
+  both-none x v e = ap (λ (m : Maybe). takeBoth (some x) m n ts (placesIn n c ws) k v) (place-none n c ws k below e)
 
   pub both-some : (x : Row) (v : ℕ) → isThere ws k ≡ true
       → takeBoth (some x) (placeIn (placesIn n c ws) k) n ts (placesIn n c ws) k v ≡ takeIn n ts (placesIn n c ws) k (withAt (rowAt n c ws k) v x)
   unfolding takeBoth
-  both-some x v e = ap (λ (m : Maybe). takeBoth (some x) m n ts (placesIn n c ws) k v) (place-some e)
+  both-some x v e = ap (λ (m : Maybe). takeBoth (some x) m n ts (placesIn n c ws) k v) (place-some n c ws k below e)

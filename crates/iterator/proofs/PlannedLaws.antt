@@ -1,6 +1,6 @@
 -- The plan as a pass reads it: the places that entries can have, the variable of each, and which rows take an entry in.
 -- Assumes nothing.
-use Prim.Native.Nat.{ℕ, _+_, _*_, _%_, _^_, _<_}
+use Prim.Native.Nat.{ℕ, _+_, _<_}
 use mathlib.Core.Path.{_≡_, sym, ap, _∙_}
 use mathlib.Core.Bool.{Bool, true, false, not, _&&_}
 use mathlib.Core.List.{List, [], _∷_}
@@ -8,33 +8,19 @@ use native.Mathlib.Omega.{arith}
 use borrow.Author.Tests.{eq-eqb, ne-eqb}
 use lib.IntN.{ℤ}
 use lib.ListN.{length, getD}
-use lib.Seq.{getD-take}
 use Rattle.words.specs.Words.{wordOf}
-use Rattle.table.specs.Layout.{sizesOf, pointsOf, taskOf}
-use Rattle.table.specs.Decode.{pointOf}
-use Rattle.table.specs.Passes.{FormedPoint}
-use Rattle.table.specs.declared.Point.{Point}
-use Rattle.table.specs.declared.Point.the-variants.{End, Assign, Test, Lock, Unlock}
+use Rattle.table.specs.Layout.{sizesOf, taskOf}
 use Rattle.analysis.specs.Rows.{rowOf, some}
 use Rattle.rules.specs.Held.{disjointOf}
-use Rattle.rules.proofs.HeldLaws.{shl-is}
 use Rattle.proposer.specs.Widen.{Places, placeIn}
-use Rattle.proposer.specs.Passes.{State, writtenTo, takeBoth, entryInto, disturb, unguarded}
-use Rattle.proposer.proofs.ThoseLaws.{those-in}
+use Rattle.proposer.specs.Passes.{State, takeBoth, entryInto, disturb, unguarded}
+use Rattle.proposer.proofs.ThoseLaws.{those-few, those-in}
+use Rattle.proposer.proofs.SlotLaws.{variable-below as written-below}
 use Rattle.iterator.specs.Arrays.{isThere, placesIn, entriesIn, stateIn}
 use Rattle.iterator.specs.Plan.{heldIn, isSlot, slotsOf}
 use Rattle.iterator.specs.Ready.{Ready}
-use Rattle.iterator.proofs.FilingLaws.{those-few}
 use Rattle.iterator.proofs.WordsLaws.{entry-is}
-use Rattle.iterator.proofs.HeldSetLaws.{disjoint-one}
-
-written-below : (t : List ℤ) (p : ℕ) (x : Point) → 0 < sizesOf t .variables → FormedPoint t p x → writtenTo x < sizesOf t .variables
-unfolding FormedPoint writtenTo
-written-below t p End l f = l
-written-below t p (Assign v e q) l f = f .0
-written-below t p (Test c y n) l f = l
-written-below t p (Lock m q) l f = l
-written-below t p (Unlock m q) l f = l
+use Rattle.iterator.proofs.HeldSetLaws.{shl, asked-is, held-is}
 
 -- the place i of the list
 pub record Slot (t : List ℤ) (plan : List ℕ) (i : ℕ) : Type 0 where
@@ -49,8 +35,7 @@ into-off t ts s k q = λ _. s
 
 module _ {t : List ℤ} {plan : List ℕ} {rows entries : List ℤ} (ready : Ready t plan rows entries) where
   pub variable-below : (q : ℕ) → q < sizesOf t .points → getD plan (768 + q) 0 < sizesOf t .variables
-  variable-below q l =
-      rw (ready .planned .variable q l) (written-below t q (pointOf (pointsOf t) q) (ready .passes .variables .low) (ready .passes .point q l))
+  variable-below q l = rw (ready .planned .variable q l) (written-below t (ready .passes) q l)
 
   pub slot-at : (i : ℕ) → i < getD plan 1280 0 → Slot t plan i
   unfolding slotsOf
@@ -79,8 +64,8 @@ module _ {t : List ℤ} {plan : List ℕ} {rows entries : List ℤ} (ready : Rea
   into-if : (ts : List ℤ) (k q : ℕ) {b d : Bool} → b ≡ d → entryInto d t ts (stateIn t rows entries) k q ≡ entryInto b t ts (stateIn t rows entries) k q
   into-if ts k q e = ap (λ (x : Bool). entryInto x t ts (stateIn t rows entries) k q) (sym e)
 
-  held-is : (q : ℕ) → q < sizesOf t .points → heldIn plan q ≡ getD plan q 0
-  held-is q l = getD-take 256 plan q 0 (omega (arith, ready .passes .points .high))
+  set-is : (q : ℕ) → q < sizesOf t .points → heldIn plan q ≡ getD plan q 0
+  set-is q l = held-is plan q (omega (arith, ready .passes .points .high))
 
   -- whether the entry at q is of another task than p, with a disjoint set
   pub disturb-own : (ts : List ℤ) (p q : ℕ) → p < sizesOf t .points → q < sizesOf t .points → getD plan (256 + q) 0 ≡ getD plan (256 + p) 0
@@ -95,14 +80,14 @@ module _ {t : List ℤ} {plan : List ℕ} {rows entries : List ℤ} (ready : Rea
   disturb-other ts p q lp lq differ e =
       into-if ts p q (rw (
         ne-eqb (taskOf t q) (taskOf t p) (λ same. differ (ready .planned .task q lq ∙ same ∙ sym (ready .planned .task p lp))),
-        held-is q lq,
-        held-is p lp,
+        set-is q lq,
+        set-is p lp,
       ) e)
 
   -- whether it is without m: the set of m alone is disjoint from its set
-  pub unguarded-is : (ts : List ℤ) (m q : ℕ) {d : Bool} → m < sizesOf t .mutexes → q < sizesOf t .points → disjointOf (getD plan q 0) (1 * 2 ^ m % 2 ^ 64) ≡ d
+  pub unguarded-is : (ts : List ℤ) (m q : ℕ) {d : Bool} → m < sizesOf t .mutexes → q < sizesOf t .points → disjointOf (getD plan q 0) (shl m) ≡ d
       → entryInto d t ts (stateIn t rows entries) (sizesOf t .points + m) q ≡ unguarded t ts (heldIn plan) m (stateIn t rows entries) q
   unfolding unguarded
   unguarded-is ts m q lm lq e =
       let below : m < 8 = omega (arith, ready .passes .mutexes .high) in
-      into-if ts _ q (sym (disjoint-one (heldIn plan q) m below) ∙ rw (held-is q lq, ← shl-is m (omega arith)) e)
+      into-if ts _ q (rw (set-is q lq) (sym (asked-is (getD plan q 0) m below) ∙ e))

@@ -10,10 +10,10 @@ use borrow.Author.Tests.{eqb-true, lt-ltb, le-ltb}
 use lib.Dec.{eqb}
 use lib.IntN.{ℤ, pos}
 use lib.ListN.{length, getD, set, drop, replicate, length-replicate}
-use lib.Seq.{ext-getD, getD-append-add, getD-drop, set-getD}
+use lib.Seq.{getD-append-add, getD-drop, set-getD}
 use Rattle.words.specs.Words.{wordOf, partOf}
 use Rattle.words.specs.Tabulate.{tabulate}
-use Rattle.words.proofs.FillLaws.{length-tabulate, getD-tabulate, Filled, fill, fills, filled-whole}
+use Rattle.words.proofs.FillLaws.{length-tabulate, Filled, fill, fills, filled-whole}
 use Rattle.words.proofs.PartLaws.{part-length}
 use Rattle.table.specs.Layout.{sizesOf, startsOf, firstOf, taskOf}
 use Rattle.table.specs.Passes.{Passes}
@@ -23,6 +23,7 @@ use Rattle.proposer.specs.Widen.{Places, placeIn, trimmedOf, takeIn, takeBy}
 use Rattle.proposer.specs.Passes.{begins, startIf, startOf, quiet}
 use Rattle.iterator.specs.Arrays.{rowsIn, entriesIn}
 use Rattle.iterator.specs.Plan.{Filed}
+use Rattle.iterator.proofs.TabulateLaws.{tabulate-list}
 use Rattle.iterator.proofs.ClearLaws.{getD-equal, zeros-nowhere}
 
 -- ---- no entry is there
@@ -51,11 +52,9 @@ rest-begins t k l = rw (le-ltb k (sizesOf t .points) l)
 starts-word : (t : List ℤ) → Passes t → tabulate (λ v. wordOf (startsOf t) v) (sizesOf t .variables) ≡ startsOf t
 unfolding startsOf
 starts-word t passes =
+    let from = 5 + sizesOf t .tasks in
     let n = sizesOf t .variables in
-    let l = partOf t (5 + sizesOf t .tasks) n in
-    let long = length-tabulate (λ v. wordOf l v) n in
-    ext-getD (pos 0) (tabulate (λ v. wordOf l v) n) l (long ∙ sym (part-length t (5 + sizesOf t .tasks) n (omega (arith, passes .whole)))) (λ v lv.
-    getD-tabulate (λ v. wordOf l v) n v (pos 0) (omega arith))
+    tabulate-list (partOf t from n) n (pos 0) (part-length t from n (omega (arith, passes .whole)))
 
 pub starts-taken : (t ts : List ℤ) (a b : Places) (k : ℕ) → Passes t → placeIn a k ≡ none
     → b ≡ takeIn (sizesOf t .variables) ts a k (rowOf (startsOf t) (startsOf t)) → b .at ≡ set (a .at) k (startIf true t)

@@ -16,7 +16,6 @@ use lib.ListN.{length, set, length-set, length-take, length-drop}
 use lib.Seq.{ext-getD, set-getD, getD-set-same, getD-set-other}
 use Rattle.words.specs.Words.{wordOf, partOf}
 use Rattle.words.specs.Tabulate.{tabulate}
-use Rattle.words.proofs.FillLaws.{length-tabulate, getD-tabulate}
 use Rattle.words.proofs.PartLaws.{part-word, part-length}
 use Rattle.interval.proofs.IntegerLaws.{eqZ-yes, eqZ-true}
 use Rattle.analysis.specs.Rows.{rowOf, Maybe, some, maybeBy}
@@ -24,26 +23,14 @@ use Rattle.proposer.specs.Widen.{Places, storeOf}
 use Rattle.proposer.proofs.CodeLaws.{pair-left, pair-below}
 use Rattle.iterator.specs.Arrays.{lowsAt, highsAt, isThere, placeAt, placesIn, Room}
 use Rattle.iterator.specs.Written.{Outside, Written}
-
--- a list that differs from another at one place
-tabulate-set : {A : Type 0} (f g : ℕ → A) (n k : ℕ) (x : A) → k < n → g k ≡ x → ((i : ℕ) → i < n → (i ≡ k → ⊥) → g i ≡ f i)
-    → tabulate g n ≡ set (tabulate f n) k x
-tabulate-set f g n k x l here there =
-    ext-getD x (tabulate g n) (set (tabulate f n) k x) (length-tabulate g n ∙ sym (length-set (tabulate f n) k x ∙ length-tabulate f n)) (λ i li.
-    let below : i < n = omega (arith, length-tabulate g n) in
-    getD-tabulate g n i x below ∙ elim (ℕ-discrete i k) [
-      | yes e ↦ rw e (here ∙ sym (getD-set-same (tabulate f n) k x x (omega (arith, length-tabulate f n))))
-      | no d ↦ there i below d ∙ sym (getD-set-other (tabulate f n) k i x x d ∙ getD-tabulate f n i x below)
-    ])
+use Rattle.iterator.proofs.TabulateLaws.{tabulate-same, tabulate-set, tabulate-list}
 
 -- a part word by word
 pub part-is : (ws : List ℤ) (from n : ℕ) (f : ℕ → ℤ) → from + n ≤ length ws → ((v : ℕ) → v < n → wordOf ws (from + v) ≡ f v)
     → partOf ws from n ≡ tabulate f n
 part-is ws from n f room is =
-    let long = part-length ws from n room in
-    ext-getD (pos 0) _ _ (long ∙ sym (length-tabulate f n)) (λ v l.
-    let below : v < n = omega (arith, long) in
-    part-word ws from n v below ∙ is v below ∙ sym (getD-tabulate f n v (pos 0) below))
+    sym (tabulate-list (partOf ws from n) n (pos 0) (part-length ws from n room))
+    ∙ tabulate-same (wordOf (partOf ws from n)) f n (λ v l. part-word ws from n v l ∙ is v l)
 
 pub part-same : (new old : List ℤ) (from n : ℕ) → length new ≡ length old → ((v : ℕ) → v < n → wordOf new (from + v) ≡ wordOf old (from + v))
     → partOf new from n ≡ partOf old from n
@@ -62,6 +49,26 @@ module _ (a b : ℕ) (l : List ℤ) (v : ℕ) (x y : ℤ) (apart : a + v < b) (r
 
   at-others : (j : ℕ) → (j ≡ a + v → ⊥) → (j ≡ b + v → ⊥) → wordOf (set (set l (a + v) x) (b + v) y) j ≡ wordOf l j
   at-others j p q = getD-set-other (set l (a + v) x) (b + v) j y (pos 0) q ∙ getD-set-other l (a + v) j x (pos 0) p
+
+-- the ends of one variable written, where the others are already what they are to be
+pub written-one : (n a b : ℕ) (low high : ℕ → ℤ) (ws : List ℤ) (v : ℕ) (x y : ℤ) → v < n → a + n ≤ b → b + n ≤ length ws → x ≡ low v → y ≡ high v
+    → ((i : ℕ) → i < n → (i ≡ v → ⊥) → wordOf ws (a + i) ≡ low i) → ((i : ℕ) → i < n → (i ≡ v → ⊥) → wordOf ws (b + i) ≡ high i)
+    → Written n a b low high ws (set (set ws (a + v) x) (b + v) y)
+written-one n a b low high ws v x y below apart room e f rest-low rest-high =
+    let before : a + v < b = omega arith in
+    let inside : b + v < length ws = omega arith in
+    let other = at-others a b ws v x y before inside in
+    record {
+      lows = λ i li. elim (ℕ-discrete i v) [
+        | yes q ↦ rw q (at-low a b ws v x y before inside ∙ e)
+        | no d ↦ other (a + i) (omega arith) (omega arith) ∙ rest-low i li d
+      ];
+      highs = λ i li. elim (ℕ-discrete i v) [
+        | yes q ↦ rw q (at-high a b ws v x y before inside ∙ f)
+        | no d ↦ other (b + i) (omega arith) (omega arith) ∙ rest-high i li d
+      ];
+      others = λ j p q. other j (p v below) (q v below);
+    }
 
 -- ---- the ends of a row written, from a and from b on
 pub record Writing (n a b : ℕ) (low high : ℕ → ℤ) (ws : List ℤ) (v : ℕ) (l : List ℤ) : Type 0 where
@@ -85,26 +92,19 @@ module _ {n a b : ℕ} {low high : ℕ → ℤ} {ws : List ℤ} where
   module _ {v : ℕ} {l : List ℤ} (s : Writing n a b low high ws v l) where
     pub writes : {x y : ℤ} → v < n → x ≡ low v → y ≡ high v → Writing n a b low high ws (v + 1) (set (set l (a + v) x) (b + v) y)
     writes {x} {y} below e f =
-        let before : a + v < b = omega (arith, s .apart) in
-        let inside : b + v < length l = omega (arith, s .room) in
         let w = s .written in
+        let one = written-one (v + 1) a b low high l v x y (omega arith) (omega (arith, s .apart)) (omega (arith, s .room)) e f
+        (λ i li d. w .lows i (omega arith)) (λ i li d. w .highs i (omega arith)) in
         let long : length (set (set l (a + v) x) (b + v) y) ≡ length l = simp length-set in
-        let other = at-others a b l v x y before inside in
         record {
           within = omega arith;
           apart = s .apart;
           room = omega (arith, s .room);
           long = long ∙ s .long;
           written = record {
-            lows = λ i li. elim (ℕ-discrete i v) [
-              | yes q ↦ rw q (at-low a b l v x y before inside ∙ e)
-              | no d ↦ other (a + i) (omega arith) (omega arith) ∙ w .lows i (omega arith)
-            ];
-            highs = λ i li. elim (ℕ-discrete i v) [
-              | yes q ↦ rw q (at-high a b l v x y before inside ∙ f)
-              | no d ↦ other (b + i) (omega arith) (omega arith) ∙ w .highs i (omega arith)
-            ];
-            others = λ j p q. other j (p v (omega arith)) (q v (omega arith)) ∙ w .others j (λ i li. p i (omega arith)) (λ i li. q i (omega arith));
+            lows = one .lows;
+            highs = one .highs;
+            others = λ j p q. one .others j p q ∙ w .others j (λ i li. p i (omega arith)) (λ i li. q i (omega arith));
           };
         }
 
@@ -117,26 +117,6 @@ module _ {n a b : ℕ} {low high : ℕ → ℤ} {ws : List ℤ} where
     pub high-still : v < n → wordOf l (b + v) ≡ wordOf ws (b + v)
     high-still below = s .written .others (b + v) (λ i li e. omega (arith, s .apart)) (λ i li e. omega arith)
 
--- the ends of one variable written, where the others are already what they are to be
-pub written-one : (n a b : ℕ) (low high : ℕ → ℤ) (ws : List ℤ) (v : ℕ) (x y : ℤ) → v < n → a + n ≤ b → b + n ≤ length ws → x ≡ low v → y ≡ high v
-    → ((i : ℕ) → i < n → (i ≡ v → ⊥) → wordOf ws (a + i) ≡ low i) → ((i : ℕ) → i < n → (i ≡ v → ⊥) → wordOf ws (b + i) ≡ high i)
-    → Written n a b low high ws (set (set ws (a + v) x) (b + v) y)
-written-one n a b low high ws v x y below apart room e f rest-low rest-high =
-    let before : a + v < b = omega arith in
-    let inside : b + v < length ws = omega arith in
-    let other = at-others a b ws v x y before inside in
-    record {
-      lows = λ i li. elim (ℕ-discrete i v) [
-        | yes q ↦ rw q (at-low a b ws v x y before inside ∙ e)
-        | no d ↦ other (a + i) (omega arith) (omega arith) ∙ rest-low i li d
-      ];
-      highs = λ i li. elim (ℕ-discrete i v) [
-        | yes q ↦ rw q (at-high a b ws v x y before inside ∙ f)
-        | no d ↦ other (b + i) (omega arith) (omega arith) ∙ rest-high i li d
-      ];
-      others = λ j p q. other j (p v below) (q v below);
-    }
-
 -- ---- where rows lie
 same-row : (n i k v u : ℕ) → v < n → u < n → i * n + v ≡ k * n + u → i ≡ k
 same-row n i k v u lv lu e = sym (pair-left i v n lv) ∙ ap (λ (x : ℕ). x / n) e ∙ pair-left k u n lu
@@ -148,6 +128,13 @@ module _ (n c : ℕ) (ws : List ℤ) (k : ℕ) (room : Room n c ws) (below : k <
 
   pub rows-room : highsAt n c k + n ≤ length ws
   rows-room = omega (arith, room .whole, suc-mul k n, mul-le-mul-right {m = suc k} {n = c} n below)
+
+  -- the row's ends: one of each for each variable
+  pub lows-long : length (partOf ws (lowsAt n c k) n) ≡ n
+  lows-long = part-length ws (lowsAt n c k) n (omega (arith, rows-apart, rows-room))
+
+  pub highs-long : length (partOf ws (highsAt n c k) n) ≡ n
+  highs-long = part-length ws (highsAt n c k) n rows-room
 
   pub rows-lie : {a b : ℕ} → a ≡ lowsAt n c k → b ≡ highsAt n c k → (a + n ≤ b) × (b + n ≤ length ws)
   rows-lie p q = rw (p, q) (rows-apart, rows-room)

@@ -12,7 +12,7 @@ use lib.Seq.{getD-set-same, getD-set-other}
 use lib.Signed.{leZ, ≤ℤ-refl}
 use Rattle.words.specs.Words.{wordOf, partOf}
 use Rattle.words.proofs.FirstLaws.{each-allBelow, fails-at}
-use Rattle.words.proofs.PartLaws.{part-word, part-length}
+use Rattle.words.proofs.PartLaws.{part-word}
 use Rattle.interval.proofs.IntegerLaws.{le-true}
 use Rattle.analysis.specs.Rows.{Row, rowOf, some}
 use Rattle.proposer.specs.Widen.{lowTo, highTo, coversOf, widenedOf, placeIn, takeIf}
@@ -20,7 +20,7 @@ use Rattle.proposer.specs.Passes.{withAt, takeBoth}
 use Rattle.iterator.specs.Arrays.{lowsAt, highsAt, isThere, rowAt, placesIn, Room}
 use Rattle.iterator.specs.Written.{lowBy, highBy}
 use Rattle.iterator.proofs.PlacesLaws.{take-old, both-some}
-use Rattle.iterator.proofs.StoreLaws.{written-one, rows-apart, rows-room, widened-is}
+use Rattle.iterator.proofs.StoreLaws.{written-one, rows-apart, rows-room, lows-long, highs-long, widened-is}
 
 -- an end that needn't move stays
 low-stays : (ts : List ℤ) (z : ℤ) → lowTo ts z z ≡ z
@@ -68,15 +68,9 @@ module _ (n c : ℕ) (ts ws : List ℤ) (k v : ℕ) (lo hi : ℤ) (room : Room n
   abbrev highs : List ℤ
   highs = partOf ws (highsAt n c k) n
 
-  lows-long : length lows ≡ n
-  lows-long = part-length ws (lowsAt n c k) n (omega (arith, rows-apart n c ws k room below, rows-room n c ws k room below))
-
-  highs-long : length highs ≡ n
-  highs-long = part-length ws (highsAt n c k) n (rows-room n c ws k room below)
-
   covers-is : coversOf n (rowAt n c ws k) new ≡ leZ (wordOf ws (lowsAt n c k + v)) lo && leZ hi (wordOf ws (highsAt n c k + v))
   covers-is =
-      covers-one n v (rowAt n c ws k) lo hi variable (omega (arith, lows-long)) (omega (arith, highs-long))
+      covers-one n v (rowAt n c ws k) lo hi variable (omega (arith, lows-long n c ws k room below)) (omega (arith, highs-long n c ws k room below))
       ∙ rw (part-word ws (lowsAt n c k) n v variable, part-word ws (highsAt n c k) n v variable) refl
 
   taken-is : (b : Bool) → leZ (wordOf ws (lowsAt n c k + v)) lo && leZ hi (wordOf ws (highsAt n c k + v)) ≡ b
@@ -104,9 +98,9 @@ module _ (n c : ℕ) (ts ws : List ℤ) (k v : ℕ) (lo hi : ℤ) (room : Room n
   unfolding takeIf widenedOf
   moved-at p q e m =
       let low : lowTo ts (wordOf ws (lowsAt n c k + v)) lo ≡ lowBy ts lows (set lows v lo) v
-      = sym (rw (getD-set-same lows v lo (pos 0) (omega (arith, lows-long)), part-word ws (lowsAt n c k) n v variable) refl) in
+      = sym (rw (getD-set-same lows v lo (pos 0) (omega (arith, lows-long n c ws k room below)), part-word ws (lowsAt n c k) n v variable) refl) in
       let high : highTo ts (wordOf ws (highsAt n c k + v)) hi ≡ highBy ts highs (set highs v hi) v
-      = sym (rw (getD-set-same highs v hi (pos 0) (omega (arith, highs-long)), part-word ws (highsAt n c k) n v variable) refl) in
+      = sym (rw (getD-set-same highs v hi (pos 0) (omega (arith, highs-long n c ws k room below)), part-word ws (highsAt n c k) n v variable) refl) in
       rw (m, p, q)
       (widened-is n c k _ _ ws _ room below (simp length-set)
       (written-one n (lowsAt n c k) (highsAt n c k) _ _ ws v _ _ variable (rows-apart n c ws k room below) (rows-room n c ws k room below)

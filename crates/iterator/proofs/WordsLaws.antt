@@ -35,7 +35,7 @@ part-one ws i l = ap (λ (x : List ℤ). take 1 x) (drop-cons ws i (pos 0) l)
 pub entry-is : (t ws : List ℤ) (q : ℕ) → q < sizesOf t .points → 1 + sizesOf t .points + sizesOf t .points + sizesOf t .points ≤ length ws → isThere ws q ≡ true
     → placeIn (entriesIn t ws) q ≡ some (rowOf (wordOf ws (1 + sizesOf t .points + q) ∷ []) (wordOf ws (1 + sizesOf t .points + sizesOf t .points + q) ∷ []))
 entry-is t ws q l fits e =
-    place-some 1 (sizesOf t .points) [] ws q l e
+    place-some 1 (sizesOf t .points) ws q l e
     ∙ rw (
       mul-one q,
       mul-one (sizesOf t .points),

@@ -18,13 +18,15 @@ use Rattle.proposer.specs.Widen.{placeIn}
 use Rattle.proposer.specs.Passes.{State}
 use Rattle.proposer.specs.Propose.{heldBy, isSome, entryUnder, codesOf, headWords, spanOf, endsOut, heldOut, headsOut, wordsOf, wordsNeeded}
 use Rattle.proposer.proofs.ThoseLaws.{those-in, chunks-length}
+use Rattle.proposer.proofs.EntryLaws.{codes-few}
 use Rattle.iterator.specs.Arrays.{rowsIn, stateIn}
 use Rattle.iterator.specs.Plan.{heldIn, codeCount, Indexed}
 use Rattle.iterator.specs.Write.{Heads, sizesFrom, heldIf, heldFrom, headOut, headsFrom, endsOf, rowEnds, spansFrom, endsFrom, wordsFrom}
 use Rattle.iterator.proofs.PlacesLaws.{placeIn-at}
 use Rattle.iterator.proofs.ConcatLaws.{concat-same, concat-few, tabulate-concat, map-concat}
 use Rattle.iterator.proofs.EndLaws.{ends-few}
-use Rattle.iterator.proofs.FilledLaws.{codes-few, heads-few, slot-few, Filled, filled}
+use Rattle.iterator.proofs.HeadLaws.{heads-few}
+use Rattle.iterator.proofs.FilledLaws.{slot-few, Filled, filled}
 
 held-maybe : (b : Bool) (r : Row) (s : ℕ) → heldBy (maybeBy b r) s ≡ heldIf b s
 unfolding heldBy maybeBy heldIf
@@ -105,8 +107,8 @@ module _ (t : List ℤ) (plan index : List ℕ) (rows entries : List ℤ) (passe
   heads-known =
       record {
         few = omega (arith, count-is, codes-few t h s, passes .points .high);
-        below = λ i l. let one = listed i l in omega (arith, one .below, heads-few t passes .1);
-        slot = λ i l. let one = listed i l in record { low = one .entry .some; high = slot-few t h index indexed rows entries passes (getD heads i 0) (one .below) };
+        below = λ i l. let one = listed i l in omega (arith, one .below, heads-few t passes);
+        slot = λ i l. let one = listed i l in record { low = one .entry .some; high = slot-few t h index indexed passes (getD heads i 0) (one .below) };
       }
 
   held-is : heldOut t h s ≡ heldFrom plan rows (sizesOf t .points)

@@ -1,10 +1,8 @@
 -- What the functions of a pass may count on.
 -- Assumes nothing.
 use Prim.Native.Nat.{ℕ}
-use mathlib.Core.Path.{_≡_}
 use mathlib.Core.List.{List}
 use lib.IntN.{ℤ}
-use lib.ListN.{length}
 use Rattle.table.specs.Passes.{Passes}
 use Rattle.iterator.specs.Arrays.{stateIn}
 use Rattle.iterator.specs.Plan.{heldIn, Planned, Filed}

@@ -12,8 +12,8 @@ ghost use lib.ListN.{length};
 ghost use Rattle.table.specs.Layout.{sizesOf};
 ghost use Rattle.table.specs.Passes.{Passes};
 ghost use Rattle.proposer.specs.Fold.{foldBelow};
-ghost use Rattle.proposer.specs.Passes.{entryInto, disturb as disturbOf, unguarded as unguardedOf, visit as visitOf, restVisit, passOf, begun, passBound, madeFrom};
-ghost use Rattle.iterator.specs.Arrays.{isThere, stateIn};
+ghost use Rattle.proposer.specs.Passes.{entryInto, disturb as disturbOf, unguarded as unguardedOf, visit as visitOf, restVisit, passOf, passBound, madeFrom};
+ghost use Rattle.iterator.specs.Arrays.{stateIn};
 ghost use Rattle.iterator.specs.Plan.{heldIn};
 ghost use Rattle.iterator.specs.Ready.{Ready};
 

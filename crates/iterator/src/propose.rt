@@ -18,7 +18,6 @@ ghost use lib.ListN.{length, drop, replicate};
 ghost use Rattle.words.specs.First.{firstBad};
 ghost use Rattle.words.specs.Stages.{stageNumbers};
 ghost use Rattle.words.specs.declared.Stage.the-variants.{Passed};
-ghost use Rattle.table.specs.Layout.{sizesOf};
 ghost use Rattle.table.specs.Passes.{Passes};
 ghost use Rattle.proposer.specs.Walk.{markCount, walksOf};
 ghost use Rattle.proposer.specs.Propose.{rule19, wordsNeeded, madeFor, proposedOf, proposeStage, proposeBy, proposeOf, bufferOf};

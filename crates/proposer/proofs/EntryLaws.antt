@@ -2,122 +2,89 @@
 -- Assumes nothing.
 use Prim.Native.Nat.{ℕ, _+_, _*_, _/_, _%_, _<_, _≤_}
 use mathlib.Core.Path.{_≡_, refl, sym, ap, _∙_}
-use mathlib.Core.Bool.{Bool, true, not}
+use mathlib.Core.Bool.{Bool, true}
 use mathlib.Core.List.{List}
 use native.Mathlib.Omega.{arith}
-use borrow.Author.Tests.{eqb-true, not-false}
 use lib.IntN.{ℤ}
 use lib.ListN.{length, getD}
 use Rattle.words.specs.Words.{wordOf, numberOf}
 use Rattle.words.specs.declared.Found.{Found}
 use Rattle.words.specs.declared.Found.the-variants.{Nothing, At}
 use Rattle.words.proofs.Bools.{clash}
-use Rattle.words.proofs.FirstLaws.{firstBad-smallest, firstBad-none}
 use Rattle.table.specs.Layout.{sizesOf, pointsOf, taskOf}
 use Rattle.table.specs.Decode.{pointOf}
 use Rattle.table.specs.Passes.{Passes}
-use Rattle.table.specs.declared.Point.{Point}
-use Rattle.table.specs.declared.Point.the-variants.{End, Assign, Test, Lock, Unlock}
 use Rattle.analysis.specs.Rows.{Row}
 use Rattle.analysis.specs.Rows.{Maybe, none, some}
 use Rattle.rules.specs.Proposal.{entriesOf, headOf, entryLow, entryHigh}
 use Rattle.proposer.specs.Laws.{Words}
 use Rattle.proposer.specs.Walk.{setsOf, Brings}
 use Rattle.proposer.specs.Widen.{placeIn}
-use Rattle.proposer.specs.Passes.{State, rowIn, codeOf, filesBy, filesAt, slotOf, writtenTo}
+use Rattle.proposer.specs.Passes.{State, rowIn, filesAt, slotOf, writtenTo}
 use Rattle.proposer.specs.Propose.{entryBy, isSome, entryUnder, codesOf, spanOf, rowOut, wordsOf}
 use Rattle.proposer.proofs.ThoseLaws.{those-length, those-in, those-has, pigeons}
 use Rattle.proposer.proofs.WordLaws.{entries-is, head-is, entry-low, entry-high}
-use Rattle.proposer.proofs.CodeLaws.{pair-left, pair-right, pair-below}
-use Rattle.proposer.proofs.PassLaws.{Inv, row-sized, written-below, slot-below}
+use Rattle.proposer.proofs.CodeLaws.{pair-left, pair-right}
+use Rattle.proposer.proofs.SlotLaws.{variable-below, codes, headCode, files-head, slot-below, slot-files, slot-code}
+use Rattle.proposer.proofs.PassLaws.{Inv, row-sized}
 
--- a point that files under c writes the variable of c
-pub files-code : (t : List ℤ) (x : Point) (u s c : ℕ) → filesBy t x u s c ≡ true → codeOf t u s (writtenTo x) ≡ c
-unfolding filesBy writtenTo
-files-code t End u s c e = clash (sym e)
-files-code t (Assign v y q) u s c e = eqb-true _ _ e
-files-code t (Test b y n) u s c e = clash (sym e)
-files-code t (Lock m q) u s c e = clash (sym e)
-files-code t (Unlock m q) u s c e = clash (sym e)
+module _ (t : List ℤ) (h : ℕ → ℕ) (s : State) where
+  -- ---- the entry that a head has
+  pub record Under (c : ℕ) : Type 0 where
+    pub slot : ℕ
+    pub at : slotOf t h c ≡ At slot
+    pub row : Row
+    pub is : placeIn (s .entries) slot ≡ some row
+    pub span : spanOf t h s c ≡ row
+
+  pub under : (c : ℕ) → isSome (entryUnder t h s c) ≡ true → Under c
+  unfolding isSome entryBy rowIn
+  under c e = by (slotOf t h c) refl e
+    where
+      inner : (q : ℕ) → slotOf t h c ≡ At q → (m : Maybe) → placeIn (s .entries) q ≡ m → isSome m ≡ true → Under c
+      inner q z none k f = clash (sym f)
+      inner q z (some r) k f = record { slot = q; at = z; row = r; is = k; span = rw (z, k) refl }
+
+      by : (f : Found) → slotOf t h c ≡ f → isSome (entryBy s f) ≡ true → Under c
+      by Nothing z f = clash (sym f)
+      by (At q) z f = inner q z (placeIn (s .entries) q) refl f
+
+  pub filled : (c q : ℕ) (r : Row) → slotOf t h c ≡ At q → placeIn (s .entries) q ≡ some r → isSome (entryUnder t h s c) ≡ true
+  unfolding isSome entryBy
+  filled c q r z k = rw (z, k) refl
+
+  -- ---- no more heads with an entry than points: each has a slot of its own
+  pub codes-few : length (codesOf t h s) ≤ sizesOf t .points
+  unfolding codesOf
+  codes-few =
+      omega (
+        arith,
+        those-length (λ c. isSome (entryUnder t h s c)) (codes t),
+        pigeons (λ c. isSome (entryUnder t h s c)) (filesAt t h) (codes t) (sizesOf t .points)
+            (λ c e. let u = under c e in (u .slot, slot-below t h c (u .slot) (u .at), slot-files t h c (u .slot) (u .at)))
+            (λ c d q e f. sym (files-head t h c q e) ∙ files-head t h d q f),
+      )
 
 module _ (t ts : List ℤ) (h : ℕ → ℕ) (on : ℕ → Bool) (passes : Passes t) (words : Words t) (brings : Brings t h on) where
   -- ---- the head of a point
-  abbrev pub headCode : ℕ → ℕ
-  headCode q = codeOf t (taskOf t q) (h q) (writtenTo (pointOf (pointsOf t) q))
+  pub code-variable : (q : ℕ) → q < sizesOf t .points → headCode t h q % sizesOf t .variables ≡ writtenTo (pointOf (pointsOf t) q)
+  code-variable q l = pair-right _ _ (sizesOf t .variables) (variable-below t passes q l)
 
-  abbrev pub codes : ℕ
-  codes = sizesOf t .tasks * setsOf t * sizesOf t .variables
+  code-front : (q : ℕ) → q < sizesOf t .points → headCode t h q / sizesOf t .variables ≡ taskOf t q * setsOf t + h q
+  code-front q l = pair-left _ _ (sizesOf t .variables) (variable-below t passes q l)
 
-  pub variable-below : (q : ℕ) → q < sizesOf t .points → writtenTo (pointOf (pointsOf t) q) < sizesOf t .variables
-  variable-below q l = written-below t ts h on passes words brings q (pointOf (pointsOf t) q) (passes .point q l)
-
-  pub code-variable : (q : ℕ) → q < sizesOf t .points → headCode q % sizesOf t .variables ≡ writtenTo (pointOf (pointsOf t) q)
-  code-variable q l = pair-right _ _ (sizesOf t .variables) (variable-below q l)
-
-  code-front : (q : ℕ) → q < sizesOf t .points → headCode q / sizesOf t .variables ≡ taskOf t q * setsOf t + h q
-  code-front q l = pair-left _ _ (sizesOf t .variables) (variable-below q l)
-
-  pub code-set : (q : ℕ) → q < sizesOf t .points → headCode q / sizesOf t .variables % setsOf t ≡ h q
+  pub code-set : (q : ℕ) → q < sizesOf t .points → headCode t h q / sizesOf t .variables % setsOf t ≡ h q
   code-set q l = ap (λ (x : ℕ). x % setsOf t) (code-front q l) ∙ pair-right (taskOf t q) (h q) (setsOf t) (brings .set q)
 
-  pub code-task : (q : ℕ) → q < sizesOf t .points → headCode q / sizesOf t .variables / setsOf t ≡ taskOf t q
+  pub code-task : (q : ℕ) → q < sizesOf t .points → headCode t h q / sizesOf t .variables / setsOf t ≡ taskOf t q
   code-task q l = ap (λ (x : ℕ). x / setsOf t) (code-front q l) ∙ pair-left (taskOf t q) (h q) (setsOf t) (brings .set q)
 
-  pub code-below : (q : ℕ) → q < sizesOf t .points → headCode q < codes
-  code-below q l =
-      pair-below _ _ (sizesOf t .tasks * setsOf t) (sizesOf t .variables)
-      (pair-below (taskOf t q) (h q) (sizesOf t .tasks) (setsOf t) (passes .owned q l .task) (brings .set q)) (variable-below q l)
-
-  -- ---- slots
-  pub slot-files : (c q : ℕ) → slotOf t h c ≡ At q → filesAt t h c q ≡ true
-  unfolding slotOf
-  slot-files c q e = not-false _ (firstBad-smallest (λ p. not (filesAt t h c p)) (sizesOf t .points) q e .fails)
-
-  pub slot-code : (c q : ℕ) → slotOf t h c ≡ At q → headCode q ≡ c
-  slot-code c q e = files-code t (pointOf (pointsOf t) q) (taskOf t q) (h q) c (slot-files c q e)
-
-  -- where p files under c there is a slot
-  pub slot-found : (c p : ℕ) → p < sizesOf t .points → filesAt t h c p ≡ true → (q : ℕ) × (slotOf t h c ≡ At q)
-  unfolding slotOf
-  slot-found c p l e = by (slotOf t h c) refl
-    where
-      by : (f : Found) → slotOf t h c ≡ f → (q : ℕ) × (slotOf t h c ≡ At q)
-      by (At q) z = (q, z)
-      by Nothing z = clash (sym (firstBad-none (λ p. not (filesAt t h c p)) (sizesOf t .points) z p l) ∙ ap not e)
-
   module _ (s : State) (inv : Inv t ts h on s) where
-    abbrev held : ℕ → Bool
-    held c = isSome (entryUnder t h s c)
-
     pub low-fits : (k : ℕ) → k < sizesOf t .points + sizesOf t .mutexes → length (rowOut t h s k .lows) ≡ sizesOf t .variables
     low-fits k l = row-sized t ts h on s k inv .lows
 
     pub high-fits : (k : ℕ) → k < sizesOf t .points + sizesOf t .mutexes → length (rowOut t h s k .highs) ≡ sizesOf t .variables
     high-fits k l = row-sized t ts h on s k inv .highs
-
-    -- ---- the entry that a head has
-    pub record Under (c : ℕ) : Type 0 where
-      pub slot : ℕ
-      pub at : slotOf t h c ≡ At slot
-      pub row : Row
-      pub is : placeIn (s .entries) slot ≡ some row
-      pub span : spanOf t h s c ≡ row
-
-    pub under : (c : ℕ) → isSome (entryUnder t h s c) ≡ true → Under c
-    unfolding isSome entryBy rowIn
-    under c e = by (slotOf t h c) refl e
-      where
-        inner : (q : ℕ) → slotOf t h c ≡ At q → (m : Maybe) → placeIn (s .entries) q ≡ m → isSome m ≡ true → Under c
-        inner q z none k f = clash (sym f)
-        inner q z (some r) k f = record { slot = q; at = z; row = r; is = k; span = rw (z, k) refl }
-
-        by : (f : Found) → slotOf t h c ≡ f → isSome (entryBy s f) ≡ true → Under c
-        by Nothing z f = clash (sym f)
-        by (At q) z f = inner q z (placeIn (s .entries) q) refl f
-
-    pub filled : (c q : ℕ) (r : Row) → slotOf t h c ≡ At q → placeIn (s .entries) q ≡ some r → isSome (entryUnder t h s c) ≡ true
-    unfolding isSome entryBy
-    filled c q r z k = rw (z, k) refl
 
     -- ---- the entry i
     pub record EntryAt (i : ℕ) : Type 0 where
@@ -136,9 +103,9 @@ module _ (t ts : List ℤ) (h : ℕ → ℕ) (on : ℕ → Bool) (passes : Passe
     entry-at i l =
         let li : i < length (codesOf t h s) = omega (arith, entries-is t h s) in
         let c = getD (codesOf t h s) i 0 in
-        let u = under c (those-in (λ c. isSome (entryUnder t h s c)) codes i li .holds) in
-        let below = slot-below t ts h on passes words brings c (u .slot) (u .at) in
-        let code : headCode (u .slot) ≡ c = slot-code c (u .slot) (u .at) in
+        let u = under t h s c (those-in (λ c. isSome (entryUnder t h s c)) (codes t) i li .holds) in
+        let below = slot-below t h c (u .slot) (u .at) in
+        let code : headCode t h (u .slot) ≡ c = slot-code t h c (u .slot) (u .at) in
         record {
           slot = u .slot;
           below = below;
@@ -161,10 +128,10 @@ module _ (t ts : List ℤ) (h : ℕ → ℕ) (on : ℕ → Bool) (passes : Passe
       pub low : entryLow t (wordsOf t h s) index ≡ wordOf (r .lows) 0
       pub high : entryHigh t (wordsOf t h s) index ≡ wordOf (r .highs) 0
 
-    pub entry-for : (c q : ℕ) (r : Row) → c < codes → slotOf t h c ≡ At q → placeIn (s .entries) q ≡ some r → EntryFor c r
+    pub entry-for : (c q : ℕ) (r : Row) → c < codes t → slotOf t h c ≡ At q → placeIn (s .entries) q ≡ some r → EntryFor c r
     unfolding codesOf numberOf entryBy rowIn
     entry-for c q r l z k =
-        let f = those-has (λ c. isSome (entryUnder t h s c)) codes c l (filled c q r z k) in
+        let f = those-has (λ c. isSome (entryUnder t h s c)) (codes t) c l (filled t h s c q r z k) in
         let span : spanOf t h s (getD (codesOf t h s) (f .0) 0) ≡ r = ap (λ (x : ℕ). spanOf t h s x) (f .2) ∙ rw (z, k) refl in
         record {
           index = f .0;
@@ -178,13 +145,4 @@ module _ (t ts : List ℤ) (h : ℕ → ℕ) (on : ℕ → Bool) (passes : Passe
 
     -- ---- no more entries than points
     pub entries-few : entriesOf (wordsOf t h s) ≤ sizesOf t .points
-    unfolding codesOf
-    entries-few =
-        omega (
-          arith,
-          entries-is t h s,
-          those-length (λ c. isSome (entryUnder t h s c)) codes,
-          pigeons (λ c. isSome (entryUnder t h s c)) (λ c q. filesAt t h c q) codes (sizesOf t .points)
-              (λ c e. let u = under c e in (u .slot, slot-below t ts h on passes words brings c (u .slot) (u .at), slot-files c (u .slot) (u .at)))
-              (λ c d q e f. sym (files-code t (pointOf (pointsOf t) q) (taskOf t q) (h q) c e) ∙ files-code t (pointOf (pointsOf t) q) (taskOf t q) (h q) d f),
-        )
+    entries-few = omega (arith, entries-is t h s, codes-few t h s)

@@ -4,6 +4,7 @@ pub mod NearestLaws
 pub mod TakeLaws
 pub mod ValueLaws
 pub mod OutcomeLaws
+pub mod SlotLaws
 pub mod PassLaws
 pub mod MadeLaws
 pub mod ThoseLaws

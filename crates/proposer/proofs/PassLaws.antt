@@ -2,7 +2,7 @@
 -- Assumes nothing.
 use Prim.Native.Nat.{ℕ, zero, suc, _+_, _<_}
 use mathlib.Core.Path.{_≡_, refl, ap, subst, _∙_}
-use mathlib.Core.Bool.{Bool, true, false, not, _&&_}
+use mathlib.Core.Bool.{Bool, true, false, _&&_}
 use mathlib.Core.List.{List, [], _∷_}
 use mathlib.Core.Logic.{inl}
 use native.Mathlib.Omega.{arith}
@@ -11,7 +11,6 @@ use lib.IntN.{ℤ}
 use Rattle.words.specs.Words.{wordOf}
 use Rattle.words.specs.declared.Found.{Found}
 use Rattle.words.specs.declared.Found.the-variants.{Nothing, At}
-use Rattle.words.proofs.FirstLaws.{firstBad-smallest}
 use Rattle.interval.specs.declared.Interval.{Interval}
 use Rattle.interval.specs.declared.Interval.the-variants.{None, Between}
 use Rattle.table.specs.Layout.{sizesOf, startsOf, pointsOf}
@@ -21,17 +20,18 @@ use Rattle.table.specs.declared.Point.{Point}
 use Rattle.table.specs.declared.Point.the-variants.{End, Assign, Test, Lock, Unlock}
 use Rattle.analysis.specs.Rows.{Row}
 use Rattle.analysis.specs.Rows.{rowOf, Maybe, none, some}
-use Rattle.rules.specs.Outcomes.{Outcome, writtenOf}
+use Rattle.rules.specs.Outcomes.{Outcome}
 use Rattle.proposer.specs.Laws.{Words}
 use Rattle.proposer.specs.Fold.{foldBelow}
 use Rattle.proposer.specs.Walk.{Brings}
 use Rattle.proposer.specs.Widen.{Places, placeIn, takeIn}
-use Rattle.proposer.specs.Passes.{State, begins, quiet, begun, rowIn, slotOf, filesAt, writtenTo, withAt, takeBoth, entryInto, disturb, unguarded, takeAll, restedBy, fileIn, filedBy, outcomesIn, leaveBy, leave, visit, restVisit, passOf}
+use Rattle.proposer.specs.Passes.{State, begins, quiet, begun, rowIn, slotOf, writtenTo, withAt, takeBoth, entryInto, disturb, unguarded, takeAll, restedBy, fileIn, filedBy, outcomesIn, leaveBy, leave, visit, restVisit, passOf}
 use Rattle.proposer.proofs.ListLaws.{Forward, fold-forward, fold-still}
 use Rattle.proposer.proofs.WidenLaws.{Proper}
 use Rattle.proposer.proofs.TakeLaws.{ProperRow, proper-zero, Known, Fine, Good, Grows, grows-trans, grows-anti, Takes, take-forward}
 use Rattle.proposer.proofs.ValueLaws.{ProperOn}
 use Rattle.proposer.proofs.OutcomeLaws.{AllOf, all-map, Sized, zero-sized, set-proper, Sound, outcomes-sound, written-proper}
+use Rattle.proposer.proofs.SlotLaws.{variable-below, slot-below}
 
 abbrev pub startRow : List ℤ → Row
 startRow t = rowOf (startsOf t) (startsOf t)
@@ -119,21 +119,13 @@ module _ (t ts : List ℤ) (h : ℕ → ℕ) (on : ℕ → Bool) where
 
   module _ (passes : Passes t) (words : Words t) (brings : Brings t h on) where
     -- ---- an entry taken into a row
-    pub written-below : (p : ℕ) (x : Point) → FormedPoint t p x → writtenTo x < sizesOf t .variables
-    unfolding FormedPoint writtenTo
-    written-below p End f = omega (arith, passes .variables .low)
-    written-below p (Assign v e q) f = f .0
-    written-below p (Test c y n) f = omega (arith, passes .variables .low)
-    written-below p (Lock m q) f = omega (arith, passes .variables .low)
-    written-below p (Unlock m q) f = omega (arith, passes .variables .low)
-
     with-proper : (s : State) (k q : ℕ) (r x : Row) → Inv s → q < sizesOf t .points → placeIn (s .rows) k ≡ some r → placeIn (s .entries) q ≡ some x
         → ProperRow (withAt r (writtenTo (pointOf (pointsOf t) q)) x)
     with-proper s k q r x i l e f =
         let known = row-known s k r i e in
         set-proper (sizesOf t .variables) r (writtenTo (pointOf (pointsOf t) q)) (wordOf (x .lows) 0) (wordOf (x .highs) 0)
         (record { lows = known .lows; highs = known .highs; proper = known .proper })
-        (written-below q (pointOf (pointsOf t) q) (passes .point q l)) (entry-known s q x i f .proper .at 0)
+        (variable-below t passes q l) (entry-known s q x i f .proper .at 0)
 
     into-forward : (b : Bool) (s : State) (k q : ℕ) → Inv s → k < sizesOf t .points + sizesOf t .mutexes → q < sizesOf t .points → Onto s (entryInto b t ts s k q)
     unfolding entryInto takeBoth
@@ -183,10 +175,6 @@ module _ (t ts : List ℤ) (h : ℕ → ℕ) (on : ℕ → Bool) where
         (λ o k. (omega (arith, f .0), k .proper, λ below. absurd (omega arith))) h)
 
     -- ---- a write filed
-    pub slot-below : (c q : ℕ) → slotOf t h c ≡ At q → q < sizesOf t .points
-    unfolding slotOf
-    slot-below c q e = firstBad-smallest (λ p. not (filesAt t h c p)) (sizesOf t .points) q e .below
-
     proper-one : (lo hi : ℤ) → Proper lo hi → ProperRow (rowOf (lo ∷ []) (hi ∷ []))
     proper-one lo hi p = record { at = at }
       where
@@ -200,7 +188,7 @@ module _ (t ts : List ℤ) (h : ℕ → ℕ) (on : ℕ → Bool) where
     fileIn-forward None c f a e g p = record { keeps = g; on = inl refl }
     fileIn-forward (Between lo hi) c Nothing a e g p = record { keeps = g; on = inl refl }
     fileIn-forward (Between lo hi) c (At q) a e g p =
-        take-forward 1 ts never (startRow t) Anywhere (sizesOf t .points) a q (rowOf (lo ∷ []) (hi ∷ [])) g (slot-below c q e) (proper-one lo hi p) tt
+        take-forward 1 ts never (startRow t) Anywhere (sizesOf t .points) a q (rowOf (lo ∷ []) (hi ∷ [])) g (slot-below t h c q e) (proper-one lo hi p) tt
 
     filed-forward : (x : Point) (p : ℕ) (r : Row) (a : Places) → GoodEntries a → ProperRow r → Takes 1 ts never (startRow t) Anywhere (sizesOf t .points) a (filedBy x t ts h a p r)
     unfolding filedBy

@@ -31,7 +31,8 @@ use Rattle.proposer.proofs.ThoseLaws.{those-rise}
 use Rattle.proposer.proofs.WordLaws.{entries-is, size-is, held-word, head-is, row-is}
 use Rattle.proposer.proofs.CodeLaws.{left-below, code-above}
 use Rattle.proposer.proofs.PassLaws.{Inv, row-sized, entry-known}
-use Rattle.proposer.proofs.EntryLaws.{variable-below, entry-at, entries-few, low-fits, high-fits}
+use Rattle.proposer.proofs.SlotLaws.{variable-below}
+use Rattle.proposer.proofs.EntryLaws.{entry-at, entries-few, low-fits, high-fits}
 
 -- a choice of three tests, by which of them holds
 first-of : (i a b c : ℕ) (P Q R : Bool) → (i < a → P ≡ true) → (a ≤ i → i < b → Q ≡ true) → (b ≤ i → i < c → R ≡ true) → (S : Bool) → (c ≤ i → S ≡ true)
@@ -75,7 +76,7 @@ module _ (t ts : List ℤ) (h : ℕ → ℕ) (on : ℕ → Bool) (passes : Passe
       lt-ltb _ _ (subst (λ (n : ℕ). n < setsOf t) (sym (x .set)) (brings .set (x .slot)))
   head-ok e (suc (suc zero)) l lj =
       let x = entry-at t ts h on passes words brings s inv e l in
-      lt-ltb _ _ (subst (λ (n : ℕ). n < sizesOf t .variables) (sym (x .variable)) (variable-below t ts h on passes words brings (x .slot) (x .below)))
+      lt-ltb _ _ (subst (λ (n : ℕ). n < sizesOf t .variables) (sym (x .variable)) (variable-below t passes (x .slot) (x .below)))
   head-ok e (suc (suc (suc j))) l lj = absurd (omega arith)
 
   -- the word k of the heads is a field of an entry

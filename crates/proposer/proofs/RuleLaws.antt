@@ -44,7 +44,8 @@ use Rattle.proposer.proofs.ValueLaws.{ProperOn}
 use Rattle.proposer.proofs.OutcomeLaws.{AllOf, all-map, Sound, written-proper}
 use Rattle.proposer.proofs.WordLaws.{held-word, row-is}
 use Rattle.proposer.proofs.PassLaws.{startRow, OnPoint, starting, never, Anywhere, Inv, row-known, takeAll-forward, rested-forward, sound-at, Arrives, Still}
-use Rattle.proposer.proofs.EntryLaws.{headCode, codes, variable-below, code-task, code-set, code-variable, code-below, slot-found, EntryAt, entry-at, EntryFor, entry-for, low-fits, high-fits}
+use Rattle.proposer.proofs.SlotLaws.{variable-below, codes, headCode, head-below, slot-found}
+use Rattle.proposer.proofs.EntryLaws.{code-task, code-set, code-variable, EntryAt, entry-at, EntryFor, entry-for, low-fits, high-fits}
 
 -- ---- tests
 implies-if : (a b : Bool) → (a ≡ true → b ≡ true) → implies a b ≡ true
@@ -232,7 +233,7 @@ module _ (t ts : List ℤ) (h : ℕ → ℕ) (on : ℕ → Bool) (passes : Passe
         (all-both _ _ (outcomesIn t ts h s p r) sound arrived)
 
     -- 14
-    filed-by : (v : ℕ) (lo hi : ℤ) (c : ℕ) (x : Row) → EntryFor t ts h on passes words brings s inv c x → headCode t ts h on passes words brings p ≡ c
+    filed-by : (v : ℕ) (lo hi : ℤ) (c : ℕ) (x : Row) → EntryFor t ts h on passes words brings s inv c x → headCode t h p ≡ c
         → writtenTo (pointOf (pointsOf t) p) ≡ v → coversOf 1 x (rowOf (lo ∷ []) (hi ∷ [])) ≡ true → Proper lo hi
         → filed t (wordsOf t h s) (taskOf t p) (h p) v (Between lo hi) ≡ true
     unfolding filed
@@ -250,11 +251,11 @@ module _ (t ts : List ℤ) (h : ℕ → ℕ) (on : ℕ → Bool) (passes : Passe
     filed-here v y q is None w z = refl
     filed-here v y q is (Between lo hi) w z =
         let own : filesAt t h (codeOf t (taskOf t p) (h p) v) p ≡ true = rw is (eq-eqb (codeOf t (taskOf t p) (h p) v) _ refl) in
-        let code : headCode t ts h on passes words brings p ≡ codeOf t (taskOf t p) (h p) v = rw is refl in
-        let slot = slot-found t ts h on passes words brings (codeOf t (taskOf t p) (h p) v) p l own in
+        let code : headCode t h p ≡ codeOf t (taskOf t p) (h p) v = rw is refl in
+        let slot = slot-found t h (codeOf t (taskOf t p) (h p) v) p l own in
         let kept : takeIn 1 ts (s .entries) (slot .0) (rowOf (lo ∷ []) (hi ∷ [])) ≡ s .entries = rw (is, w, slot .1) at entries-still in
         let c = take-still 1 ts never (startRow t) Anywhere (s .entries) (slot .0) (rowOf (lo ∷ []) (hi ∷ [])) calm-entries kept in
-        let below = subst (λ (n : ℕ). n < codes t ts h on passes words brings) code (code-below t ts h on passes words brings p l) in
+        let below = subst (λ (n : ℕ). n < codes t) code (head-below t h passes p l (brings .set p)) in
         filed-by v lo hi (codeOf t (taskOf t p) (h p) v) (c .row)
         (entry-for t ts h on passes words brings s inv (codeOf t (taskOf t p) (h p) v) (slot .0) (c .row) below (slot .1) (c .is))
         code (rw is refl) (c .covers) z
@@ -290,7 +291,7 @@ module _ (t ts : List ℤ) (h : ℕ → ℕ) (on : ℕ → Bool) (passes : Passe
   into-still k q r x l er ex kept =
       let v = writtenTo (pointOf (pointsOf t) q) in
       let known = row-known t ts h on s k r inv er in
-      let lv = variable-below t ts h on passes words brings q l in
+      let lv = variable-below t passes q l in
       let rows : takeIn (sizesOf t .variables) ts (s .rows) k (withAt r v x) ≡ s .rows = rw (er, ex) at (ap (λ (y : State). y .rows) kept) in
       let c = take-still (sizesOf t .variables) ts (starting t) (startRow t) (OnPoint t on) (s .rows) k (withAt r v x) calm rows in
       let same : c .row ≡ r = some-inj (sym (c .is) ∙ er) in

@@ -8,7 +8,7 @@ use Rattle.rules.specs.Held.{hasOf}
 use Rattle.rules.proofs.ReadyLaws.{mutex-fits}
 use Rattle.iterator.specs.Plan.{heldIn}
 use Rattle.iterator.proofs.LeaveLaws.{lock-held}
-use Rattle.iterator.proofs.LeaveCodeLaws.{held-is, lock-apart-left, lock-met-left}
+use Rattle.iterator.proofs.LeaveCodeLaws.{mutex-is, lock-apart-left, lock-met-left}
 use Rattle.iterator.proofs.leave.lock.Statement.{statement}
 use Rattle.iterator.proofs.leave.lock.Tie as tie
 
@@ -17,7 +17,7 @@ mutex-held : (c : tie.After-disjoint) → let a = c .before .before .args in has
 mutex-held c =
     let start = c .before .before in
     let pre = start .pre in
-    held-is (now (start .args .plan)) _ _ (pre .1 .0) (mutex-fits (pre .0) (pre .1 .1)) (c .disjoint .ensures)
+    mutex-is (now (start .args .plan)) _ _ (pre .1 .0) (mutex-fits (pre .0) (pre .1 .1)) (c .disjoint .ensures)
 
 held : tie.Need-returns
 held c entries x own = lock-held _ _ _ _ _ _ _ _ (mutex-held (c .before) ∙ c .if1 .taken)

@@ -7,7 +7,7 @@ use Rattle.rules.specs.Held.{hasOf}
 use Rattle.rules.proofs.ReadyLaws.{mutex-fits}
 use Rattle.iterator.specs.Plan.{heldIn}
 use Rattle.iterator.proofs.LeaveLaws.{unlock-free}
-use Rattle.iterator.proofs.LeaveCodeLaws.{held-is, unlock-left}
+use Rattle.iterator.proofs.LeaveCodeLaws.{mutex-is, unlock-left}
 use Rattle.iterator.proofs.leave.unlock.Statement.{statement}
 use Rattle.iterator.proofs.leave.unlock.Tie as tie
 
@@ -16,7 +16,7 @@ mutex-held : (c : tie.After-disjoint) → let a = c .before .before .args in has
 mutex-held c =
     let start = c .before .before in
     let pre = start .pre in
-    held-is (now (start .args .plan)) _ _ (pre .1 .0) (mutex-fits (pre .0) (pre .1 .1)) (c .disjoint .ensures)
+    mutex-is (now (start .args .plan)) _ _ (pre .1 .0) (mutex-fits (pre .0) (pre .1 .1)) (c .disjoint .ensures)
 
 free : tie.Need-returns
 free c entries x own = unlock-free _ _ _ _ _ _ _ _ (mutex-held (c .before) ∙ ap not (c .if1 .taken))

@@ -51,7 +51,7 @@ returns : tie.Need-returns
 returns c =
     let asked = c .before in
     let start = asked .before .before in
-    sym (into-no-entry true _ _ _ _ _ (place-none 1 _ (now (start .args .ts)) _ _ (start .pre .1 .1) (fails-not (asked .is-there .ensures) (c .if1 .taken))))
+    sym (into-no-entry true _ _ _ _ _ (place-none 1 _ _ _ (start .pre .1 .1) (fails-not (asked .is-there .ensures) (c .if1 .taken))))
 
 pub entry-into-spec : {M : Type 1} → statement M
 entry-into-spec =

@@ -32,7 +32,7 @@ visits-requires c κs =
     record {
       passes = start .pre .passes;
       planned = start .pre .planned;
-      filed = subst (Filed t h) (sym (cleared-begun t (now (start .args .rows)) (now (start .args .entries)))) (begun-filed t (now (start .args .ts)) h _ (start .pre .filed));
+      filed = subst (Filed t h) (sym (cleared-begun t (now (start .args .rows)) (now (start .args .entries)))) (begun-filed t h _ (start .pre .filed));
     }
 
 rest-visits-requires : tie.Need-rest-visits-requires
@@ -44,7 +44,7 @@ rest-visits-requires c κs =
     record {
       passes = start .pre .passes;
       planned = start .pre .planned;
-      filed = subst (Filed t h) (sym (visited (c .before .before))) (visits-filed t ts h (sizesOf t .points) _ (begun-filed t ts h _ (start .pre .filed)));
+      filed = subst (Filed t h) (sym (visited (c .before .before))) (visits-filed t ts h (sizesOf t .points) _ (begun-filed t h _ (start .pre .filed)));
     }
 
 passed : (c : tie.After-rest-visits) → let start = c .before .before .before .before .before .before in let t = now (start .args .t) in

@@ -23,7 +23,7 @@ returns c =
     let start = asked .before .before .before in
     let t = now (start .args .t) in
     let here : start .args .p < sizesOf t .points + sizesOf t .mutexes = omega (arith, start .pre .1) in
-    sym (visit-unreached t (now (start .args .ts)) (heldIn (now (start .args .plan))) _ _ (place-none _ _ (now (start .args .ts)) _ _ here (fails-not (asked .is-there .ensures) (c .if1 .taken))))
+    sym (visit-unreached t (now (start .args .ts)) (heldIn (now (start .args .plan))) _ _ (place-none _ _ _ _ here (fails-not (asked .is-there .ensures) (c .if1 .taken))))
 
 leave-requires : tie.Need-leave-requires
 leave-requires c κs =

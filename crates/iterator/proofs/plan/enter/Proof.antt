@@ -7,9 +7,10 @@ use Rattle.words.proofs.Bools.{fails-not, holds-not}
 use Rattle.table.specs.Layout.{pointsOf}
 use Rattle.table.specs.Decode.{pointOf}
 use Rattle.proposer.specs.Walk.{markCount, heldIn}
+use Rattle.proposer.proofs.SlotLaws.{variable-below}
 use Rattle.iterator.specs.Arrays.{marksIn}
 use Rattle.iterator.specs.Book.{bookOf}
-use Rattle.iterator.proofs.HeadLaws.{codes-few, variable-below}
+use Rattle.iterator.proofs.HeadLaws.{heads-few}
 use Rattle.iterator.proofs.BookLaws.{entered-other, entered-assign}
 use Rattle.iterator.proofs.plan.enter.Statement.{statement}
 use Rattle.iterator.proofs.plan.enter.Tie as tie
@@ -51,7 +52,7 @@ file-requires : tie.Need-file-requires
 file-requires c κs =
     let start = c .before .before .before .before .before .before .before .before .before .before in
     let passes = start .pre .0 in
-    (omega (arith, start .pre .1 .0, passes .points .high), omega (arith, c .head-of .ensures .1, codes-few (now (start .args .t)) passes), start .pre .1 .1)
+    (omega (arith, start .pre .1 .0, passes .points .high), omega (arith, c .head-of .ensures .1, heads-few (now (start .args .t)) passes), start .pre .1 .1)
 
 returns-2 : tie.Need-returns-2
 returns-2 c =

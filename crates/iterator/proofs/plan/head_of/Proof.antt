@@ -6,17 +6,18 @@ use borrow.Author.Needs.{needs}
 use denote.Ref.{now}
 use Rattle.proposer.specs.Walk.{setsOf}
 use Rattle.proposer.specs.Passes.{codeOf}
+use Rattle.proposer.proofs.SlotLaws.{code-below}
 use Rattle.iterator.specs.Plan.{codeCount}
-use Rattle.iterator.proofs.HeadLaws.{codes-few, code-front-few, code-below}
+use Rattle.iterator.proofs.HeadLaws.{heads-few, front-few}
 use Rattle.iterator.proofs.plan.head_of.Statement.{statement}
 use Rattle.iterator.proofs.plan.head_of.Tie as tie
 
 -- the first two parts, and all three
 front : (c : tie.Start) → c .args .u * setsOf (now (c .args .t)) + c .args .s < 2048
-front c = code-front-few (now (c .args .t)) (c .pre .0) (c .args .u) (c .args .s) (c .pre .1 .0) (c .pre .1 .1)
+front c = front-few (now (c .args .t)) (c .pre .0) (c .args .u) (c .args .s) (c .pre .1 .0) (c .pre .1 .1)
 
 whole : (c : tie.Start) → codeOf (now (c .args .t)) (c .args .u) (c .args .s) (c .args .v) < codeCount (now (c .args .t))
-whole c = code-below (now (c .args .t)) (c .pre .0) (c .args .u) (c .args .s) (c .args .v) (c .pre .1 .0) (c .pre .1 .1) (c .pre .1 .2)
+whole c = code-below (now (c .args .t)) (c .args .u) (c .args .s) (c .args .v) (c .pre .1 .0) (c .pre .1 .1) (c .pre .1 .2)
 
 mul-result : tie.Need-mul-result
 mul-result c = rw (c .sets .ensures .0) (omega (arith, front (c .before)))
@@ -27,12 +28,12 @@ add-result c = rw (c .sets .ensures .0) (omega (arith, front (c .before)))
 mul-result-2 : tie.Need-mul-result-2
 mul-result-2 c =
     let start = c .before .before in
-    rw (c .before .sets .ensures .0, c .number-at .ensures .0) (omega (arith, whole start, codes-few (now (start .args .t)) (start .pre .0)))
+    rw (c .before .sets .ensures .0, c .number-at .ensures .0) (omega (arith, whole start, heads-few (now (start .args .t)) (start .pre .0)))
 
 add-result-2 : tie.Need-add-result-2
 add-result-2 c =
     let start = c .before .before in
-    rw (c .before .sets .ensures .0, c .number-at .ensures .0) (omega (arith, whole start, codes-few (now (start .args .t)) (start .pre .0)))
+    rw (c .before .sets .ensures .0, c .number-at .ensures .0) (omega (arith, whole start, heads-few (now (start .args .t)) (start .pre .0)))
 
 returns : tie.Need-returns
 returns c = rw (c .before .sets .ensures .0, c .number-at .ensures .0) (refl, whole (c .before .before))

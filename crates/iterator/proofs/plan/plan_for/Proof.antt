@@ -6,10 +6,11 @@ use borrow.Author.Needs.{needs}
 use denote.Ref.{now}
 use Rattle.table.specs.Layout.{sizesOf}
 use Rattle.proposer.specs.Walk.{markCount, heldIn}
+use Rattle.proposer.proofs.SlotLaws.{head-below}
 use Rattle.iterator.specs.Arrays.{marksIn}
 use Rattle.iterator.specs.Book.{bookOf}
 use Rattle.iterator.proofs.HeldLaws.{held-below, held-past, marks-length}
-use Rattle.iterator.proofs.HeadLaws.{codes-few, code-at-below}
+use Rattle.iterator.proofs.HeadLaws.{heads-few}
 use Rattle.iterator.proofs.BookLaws.{Made, made-start, made-few, made-more, made-held, made-indexed, made-planned}
 use Rattle.iterator.proofs.plan.plan_for.Statement.{statement}
 use Rattle.iterator.proofs.plan.plan_for.Tie as tie
@@ -58,7 +59,7 @@ loop-again c =
       rw (c .enter .ensures)
           (made-more t (heldIn t marks) p (bookOf (loop .loop .plan) (loop .loop .index) (loop .loop .count)) (loop .loop .inv .0)
           (omega (arith, is-point turn, passes .points .high)) (is-point turn)
-          (code-at-below t passes (heldIn t marks) p (is-point turn) (held-below t marks p)) (codes-few t passes)),
+          (head-below t (heldIn t marks) passes p (is-point turn) (held-below t marks p)) (heads-few t passes)),
       omega (arith, turn .loop-test .taken),
     )
 

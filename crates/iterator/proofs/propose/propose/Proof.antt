@@ -1,12 +1,10 @@
 -- `iterator::propose::propose` meets its contract: each `return` is a refusal that comes after those before it, and where none is left the proposal is made.
 -- Assumes nothing.
-use Prim.Native.Nat.{ℕ, _≤_}
+use Prim.Native.Nat.{_≤_}
 use mathlib.Core.Path.{_≡_, refl, sym, _∙_}
-use mathlib.Core.Bool.{true}
 use borrow.Author.Needs.{needs}
 use borrow.Author.Tests.{le-leb, lt-leb}
 use denote.Ref.{now}
-use lib.Dec.{leb}
 use lib.ListN.{length}
 use Rattle.words.specs.declared.Found.the-variants.{Nothing}
 use Rattle.words.specs.declared.Stage.the-variants.{Passed}

@@ -3,14 +3,17 @@ use Prim.Native.Nat.{_-_, _<_}
 use borrow.Author.Needs.{needs}
 use denote.Ref.{now}
 use Rattle.table.specs.Layout.{sizesOf, firstOf}
+use Rattle.proposer.specs.Walk.{markCount}
+use Rattle.iterator.specs.Arrays.{marksIn}
 use Rattle.iterator.specs.Marks.{From}
 use Rattle.iterator.proofs.MarkLaws.{marks-few, from-asks, from-gives}
-use Rattle.iterator.proofs.RoundLaws.{Begun, begin, begins, begun, first-from}
+use Rattle.iterator.proofs.FoldLaws.{fold-next}
+use Rattle.iterator.proofs.RoundLaws.{Begun, begin, begun, first-from}
 use Rattle.iterator.proofs.walk.first_marks.Statement.{statement}
 use Rattle.iterator.proofs.walk.first_marks.Tie as tie
 
 abbrev Inv-loop : tie.InvT-loop
-Inv-loop t marks₀ n tasks u₀ marks u = Begun t u marks
+Inv-loop t marks₀ n tasks u₀ marks u = Begun t u (marksIn (markCount t) marks)
 
 abbrev μ-loop : tie.MeasureT-loop
 μ-loop t marks₀ n tasks u₀ marks u = tasks - u
@@ -31,7 +34,7 @@ mark-requires c κs =
 loop-again : tie.Need-loop-again Inv-loop μ-loop
 loop-again c =
     let turn = c .before .before .before in
-    begins _ (turn .before .loop .inv) (is-task turn) (from-gives (from turn) (rw (c .before .first-of .ensures) at (c .mark .ensures)))
+    fold-next (turn .before .loop .inv) (is-task turn) (from-gives (from turn) (rw (c .before .first-of .ensures) at (c .mark .ensures)) .marks)
 
 returns : tie.Need-returns Inv-loop μ-loop
 returns c = begun _ (c .before .loop .inv) (rw (c .before .before .number-at .ensures .0) at (c .loop-test .left))

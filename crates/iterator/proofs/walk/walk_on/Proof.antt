@@ -11,7 +11,7 @@ element-copy-out-if1 : tie.Need-element-copy-out-if1
 element-copy-out-if1 c = omega (arith, c .pre .1 .1, marks-few (now (c .args .t)) (c .pre .0))
 
 some-sets : (c : tie.Start) → 0 < c .args .n
-some-sets c = set-pos (now (c .args .t)) _ _ (c .pre .1 .0) (c .pre .1 .1)
+some-sets c = set-pos (now (c .args .t)) _ (c .pre .1 .0)
 
 go-on-requires : tie.Need-go-on-requires
 go-on-requires c κs = let pre = c .before .before .before .pre in mark-from _ _ _ (pre .1 .0) (pre .1 .1) (pre .0)

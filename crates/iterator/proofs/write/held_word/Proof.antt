@@ -5,12 +5,12 @@ use native.Mathlib.Omega.{arith}
 use borrow.Author.Needs.{needs}
 use borrow.Author.Tests.{not-true, not-false}
 use lib.ListN.{getD}
-use lib.Seq.{getD-take}
 use denote.Ref.{now}
 use mir.Syntax.{w32}
 use mir.ValLaws.{toZ-pos}
 use Rattle.iterator.specs.Plan.{heldIn}
 use Rattle.iterator.specs.Write.{heldIf}
+use Rattle.iterator.proofs.HeldSetLaws.{held-is}
 use Rattle.iterator.proofs.write.held_word.Statement.{statement}
 use Rattle.iterator.proofs.write.held_word.Tie as tie
 
@@ -20,7 +20,7 @@ returns c = rw (sym (c .before .is-there .ensures) ∙ not-true _ (c .if1 .taken
 
 -- the set that was read is the plan's
 set-is : (c : tie.Else1) → let a = c .before .before .before .args in heldIn (now (a .plan)) (a .p) ≡ getD (now (a .plan)) (a .p) 0
-set-is c = let start = c .before .before .before in getD-take 256 (now (start .args .plan)) (start .args .p) 0 (start .pre .0)
+set-is c = let start = c .before .before .before in held-is (now (start .args .plan)) (start .args .p) (start .pre .0)
 
 set-small : (c : tie.Else1) → let a = c .before .before .before .args in getD (now (a .plan)) (a .p) 0 < 256
 set-small c = omega (arith, set-is c, c .before .before .before .pre .1)

@@ -10,11 +10,13 @@ use lib.ListN.{length, getD}
 use denote.Ref.{now}
 use Rattle.proposer.specs.Fold.{those}
 use Rattle.proposer.specs.Propose.{codesOf, wordsOf}
+use Rattle.proposer.proofs.EntryLaws.{codes-few}
 use Rattle.iterator.specs.Arrays.{stateIn}
 use Rattle.iterator.specs.Plan.{heldIn, codeCount}
 use Rattle.iterator.specs.Write.{Puts, isFilled, wordsFrom}
 use Rattle.iterator.proofs.PutLaws.{puts-front, puts-at}
-use Rattle.iterator.proofs.FilledLaws.{codes-few, heads-few, collected-is, slot-few}
+use Rattle.iterator.proofs.HeadLaws.{fronts-few, heads-few}
+use Rattle.iterator.proofs.FilledLaws.{collected-is, slot-few}
 use Rattle.iterator.proofs.WriteLaws.{words-few, heads-known, words-is}
 use Rattle.iterator.proofs.write.write.Statement.{statement}
 use Rattle.iterator.proofs.write.write.Tie as tie
@@ -26,12 +28,12 @@ codes-is c = rw (c .before .before .number-at .ensures .0, c .before .sets .ensu
 mul-codes : tie.Need-mul-codes
 mul-codes c =
     let s = c .before .before .before in
-    rw (c .before .number-at .ensures .0, c .sets .ensures .0) (record { fits = omega (arith, heads-few (now (s .args .t)) (s .pre .0 .0) .0) })
+    rw (c .before .number-at .ensures .0, c .sets .ensures .0) (record { fits = omega (arith, fronts-few (now (s .args .t)) (s .pre .0 .0)) })
 
 mul-codes-2 : tie.Need-mul-codes-2
 mul-codes-2 c =
     let s = c .before .before .before .before in
-    record { fits = omega (arith, codes-is c, heads-few (now (s .args .t)) (s .pre .0 .0) .1) }
+    record { fits = omega (arith, codes-is c, heads-few (now (s .args .t)) (s .pre .0 .0)) }
 
 -- the heads of the proposal, and those that the index has
 abbrev codes : (s : tie.Start) → List ℕ
@@ -52,8 +54,8 @@ collect-requires c κs =
     let passes = s .pre .0 .0 in
     rw (codes-is (c .before)) (
       (
-        heads-few (now (a .t)) passes .1,
-        slot-few (now (a .t)) (heldIn (now (a .plan))) (now (a .index)) (s .pre .0 .2) (now (a .rows)) (now (a .entries)) passes,
+        heads-few (now (a .t)) passes,
+        slot-few (now (a .t)) (heldIn (now (a .plan))) (now (a .index)) (s .pre .0 .2) passes,
       ),
       (c .before .before .before .before .no-heads .ensures, rw (codes-filled s) (codes-small s)),
     )
