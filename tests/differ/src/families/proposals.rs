@@ -99,11 +99,47 @@ fn most_passes(table: &[i32], thresholds: usize) -> u64 {
     (1 + 2 * points + 2 * (thresholds + 1) * ends) as u64
 }
 
+/// What the passes did, as the words and their number show it.
+fn sorts(proposal: &Proposal, made: &Proposed) -> Vec<&'static str> {
+    let [points, mutexes, variables] = sizes(&proposal.table);
+    let entries = made.words[3] as usize;
+    let (held, rest) = made.words[4..].split_at(points);
+    let ends = &rest[3 * entries..];
+    let (lows, highs) = ends.split_at(ends.len() / 2);
+    let starts = &proposal.table[5 + proposal.table[0] as usize..][..variables];
+    let rests = points * variables..(points + mutexes) * variables;
+    let moved = |at: usize| [lows[at], highs[at]] != [starts[at % variables]; 2];
+    let any = |test: &dyn Fn(&i32) -> bool| ends.iter().any(test);
+    let told = [
+        ("with an unreached point", held.contains(&-1)),
+        ("with a held set", held.iter().any(|&set| set > 0)),
+        ("with an entry", entries > 0),
+        (
+            "with a task that writes under two sets or variables",
+            entries > proposal.table[0] as usize,
+        ),
+        ("with a rest row that moved", rests.into_iter().any(moved)),
+        ("with an end at a threshold", any(&|end| proposal.thresholds.contains(end))),
+        ("with an end at MIN or MAX", any(&|end| [i32::MIN, i32::MAX].contains(end))),
+        ("by no threshold", proposal.thresholds.is_empty()),
+        ("by thresholds", !proposal.thresholds.is_empty()),
+        ("in one or two passes", made.passes <= 2),
+        ("in three passes", made.passes == 3),
+        ("in more passes", made.passes > 3),
+    ];
+    told.iter().filter(|(_, holds)| *holds).map(|&(name, _)| name).collect()
+}
+
 fn case(tally: &mut Tally, proposal: &Proposal, room: usize, wanted: &Result<Proposed, Refusal>) {
-    tally.count(match wanted {
-        Ok(_) => "made".to_string(),
-        Err((rule, _)) => format!("refused {rule}"),
-    });
+    match wanted {
+        Ok(made) => {
+            tally.count("made".to_string());
+            for sort in sorts(proposal, made) {
+                tally.count(format!("made {sort}"));
+            }
+        }
+        Err((rule, _)) => tally.count(format!("refused {rule}")),
+    }
     tally.case(proposal.differences(room, wanted), || proposal.shown(room));
 }
 
@@ -148,7 +184,23 @@ pub fn run(_bin: &Path, tally: &mut Tally) {
         let (proposal, room) = drawn(random);
         case(tally, &proposal, room, &proposal.wanted);
     }
-    for sort in ["made", "refused 18", "refused 19", "refused 20"] {
+    for sort in [
+        "refused 18",
+        "refused 19",
+        "refused 20",
+        "made with an unreached point",
+        "made with a held set",
+        "made with an entry",
+        "made with a task that writes under two sets or variables",
+        "made with a rest row that moved",
+        "made with an end at a threshold",
+        "made with an end at MIN or MAX",
+        "made by no threshold",
+        "made by thresholds",
+        "made in one or two passes",
+        "made in three passes",
+        "made in more passes",
+    ] {
         tally.expect(sort, LEAST);
     }
 }
