@@ -1,5 +1,6 @@
 // The analysis of a tree on a row: the interval of arithmetic, the decision of a condition, their alarms, and the row that a condition of a known
 // truth leaves. A choice reads each branch on the row that its condition leaves for it.
+#![tactic(auto)]
 ghost use Rattle.analysis.specs.Laws.{Laws};
 ghost use Rattle.analysis.specs.Examples.{Starred};
 
@@ -14,7 +15,7 @@ pub mod rows;
 pub type Row = [i32; 32];
 
 // What a condition says of a row: its decision, and whether there is a row where it is true and one where it is false.
-#[derive(Drop)]
+#[derive(Clone, Copy)]
 pub struct Split {
     pub decision: Decision,
     pub yes: bool,
@@ -22,7 +23,7 @@ pub struct Split {
 }
 
 // A node, and whether the 'not' around it turn it.
-#[derive(Drop)]
+#[derive(Clone, Copy)]
 pub struct Bare {
     pub node: usize,
     pub turned: bool,
@@ -30,7 +31,7 @@ pub struct Bare {
 
 // What a condition is asked: the truth by which a row is narrowed in its place; whether that row is a copy of the row that is read, and whether the row
 // from which the opposite starts is one; and whether there is a row that what the opposite leaves is joined to, or a copy of the row from which it starts.
-#[derive(Drop)]
+#[derive(Clone, Copy)]
 pub(crate) struct Asked {
     pub(crate) truth: bool,
     pub(crate) copy: bool,
@@ -39,7 +40,7 @@ pub(crate) struct Asked {
 }
 
 // What it says: its decision, and whether there is a row where one was narrowed and where one was joined.
-#[derive(Drop)]
+#[derive(Clone, Copy)]
 pub(crate) struct Said {
     pub(crate) decision: Decision,
     pub(crate) narrowed: bool,
@@ -47,7 +48,7 @@ pub(crate) struct Said {
 }
 
 // A node, and the kind of error that is possible there: 1 overflow, 2 division by zero.
-#[derive(Drop)]
+#[derive(Clone, Copy)]
 pub struct Alarm {
     pub node: usize,
     pub kind: usize,

@@ -1,4 +1,5 @@
 // The check of a proposal against a table: refusals 1 to 17 in order, and the alarm list.
+#![tactic(auto)]
 pub mod check;
 mod list;
 
@@ -6,7 +7,7 @@ ghost use Rattle.checker.specs.Laws.{Laws};
 ghost use Rattle.checker.specs.Examples.{Starred};
 
 // Accepted with the number of alarms, or the first broken rule with its smallest place.
-#[derive(Drop)]
+#[derive(Clone, Copy)]
 pub enum Verdict {
     Accepted(usize),
     Refused(u32, usize),

@@ -7,7 +7,7 @@ use crate::side::{Side, value};
 use interval::{Comparison, Operation};
 
 // What is asked of a pair of values x and y. The first five look at y alone.
-#[derive(Drop)]
+#[derive(Clone, Copy)]
 pub enum Ask {
     Value,
     Negation,

@@ -4,7 +4,7 @@ use crate::hull::{Hull, nothing};
 use crate::tally::{Tally, no_cases};
 use interval::Decision;
 
-#[derive(Drop)]
+#[derive(Clone, Copy)]
 enum Connective {
     Both,
     Either,

@@ -7,7 +7,7 @@ use crate::side::{Side, side_at};
 use crate::tally::{Tally, no_cases};
 use interval::{Comparison, Computed, Decision, Interval, Operation};
 
-#[derive(Drop)]
+#[derive(Clone, Copy)]
 pub enum Family {
     Negation,
     Arithmetic,

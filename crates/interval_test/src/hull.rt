@@ -3,7 +3,7 @@ use crate::exact::wide;
 use interval::{Decision, Interval};
 
 // Without a number, low and high mean nothing.
-#[derive(Drop)]
+#[derive(Clone, Copy)]
 pub struct Hull {
     pub some: bool,
     pub low: i64,

@@ -31,7 +31,7 @@ const GRID: [i32; 21] = [
 
 // An interval to hand in, and the places from..to of its values in the grid. It is dense where both ends are in one stretch, so that the grid
 // has every number of it.
-#[derive(Drop)]
+#[derive(Clone, Copy)]
 pub struct Side {
     pub given: Interval,
     pub from: usize,

@@ -1,5 +1,5 @@
 // How many cases were run, and how many of them were wrong.
-#[derive(Drop)]
+#[derive(Clone, Copy)]
 pub struct Tally {
     pub cases: u64,
     pub wrong: u64,

@@ -1,5 +1,6 @@
 // The check, the run and the proposer for C and Rust to link: thin functions over `checker::check::check`, `run::play::run` and
 // `iterator::propose::propose`.
+#![tactic(auto)]
 ghost use Rattle.std.specs.Prelude.{◌≡◌, length};
 ghost use Rattle.words.specs.declared.Stage.TheVariants.{Passed, Broken};
 ghost use Rattle.words.specs.Stages.{numbers_by, stage_numbers};
@@ -19,7 +20,7 @@ mod slots;
 
 // Document 01's numbers: the number of the refusal or 0, its place, and the count of alarms; 0 for what isn't given.
 #[repr(C)]
-#[derive(Drop)]
+#[derive(Clone, Copy)]
 pub struct RangecheckAnswer {
     pub number: u32,
     pub place: u64,
@@ -28,7 +29,7 @@ pub struct RangecheckAnswer {
 
 // The number of the refusal or 0, its place, the words that were written and the passes that were made; 0 for what isn't given.
 #[repr(C)]
-#[derive(Drop)]
+#[derive(Clone, Copy)]
 pub struct RangecheckProposed {
     pub number: u32,
     pub place: u64,

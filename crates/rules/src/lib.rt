@@ -1,4 +1,5 @@
 // Refusals 7 to 16: a proposal's layout, held sets, the outcomes of points, and each rule with its smallest place.
+#![tactic(auto)]
 use words::Found;
 
 mod disturb;
@@ -15,14 +16,14 @@ mod rows;
 mod start;
 
 // The places that a search goes over: from one on, and below another.
-#[derive(Drop)]
+#[derive(Clone, Copy)]
 pub struct Places {
     pub from: usize,
     pub to: usize,
 }
 
 // The places that rules 11 to 16 are about: points; rest rows, as points + mutex; entries, as points + entry.
-#[derive(Drop)]
+#[derive(Clone, Copy)]
 pub struct Scope {
     pub points: Places,
     pub rests: Places,
@@ -30,7 +31,7 @@ pub struct Scope {
 }
 
 // Whether rules 12, 13 and 14 hold at a point.
-#[derive(Drop)]
+#[derive(Clone, Copy)]
 pub struct Fits {
     pub locks: bool,
     pub flow: bool,
@@ -38,7 +39,7 @@ pub struct Fits {
 }
 
 // The smallest places at which rules 12, 13 and 14 fail.
-#[derive(Drop)]
+#[derive(Clone, Copy)]
 pub struct Faults {
     pub locks: Found,
     pub flow: Found,

@@ -10,7 +10,7 @@ ghost use Rattle.interval.specs.Compare.{test as test_of};
 ghost use Rattle.words.specs.Words.{word_of, number_at};
 ghost use Rattle.table.specs.declared.Verity.TheVariants.{Truth};
 ghost use Rattle.table.specs.Tree.{arith_at, cond_at};
-ghost use Rattle.table.specs.Meaning.{value_then, value_then_tell, truth_then, fit as fit_of, perform_by, perform as perform_of, input_by, result, truth};
+ghost use Rattle.table.specs.Meaning.{value_then, value_then_tell, truth_then, fit as fit_of, perform_by, perform as perform_of, input_by, result as result_of, truth};
 ghost use Rattle.table.specs.Decode.{Leaf, kind_operation, kind_comparison};
 ghost use Rattle.run.specs.Codes.{is_error, error_of, error_number, error_node, error_kind, Failed, Code, evaluation_of, verity_of, truth_number, kind_pair, nodes_in};
 
@@ -24,56 +24,56 @@ use words::{number, word};
 fn failed(n: usize, k: usize) -> i64
     requires n_bound { n < 1024 }
     requires k_bound { k ≤ 2 }
-    ensures* { λ r. ⌜ r ≡ error_of n k ⌝ }
+    ensures { result ≡ error_of n k }
 {
     4294967296 + (2 * n + k) as i64
 }
 
 pub(crate) fn is_error(z: i64) -> bool
-    ensures* { λ r. ⌜ r ≡ is_error z ⌝ }
+    ensures { result ≡ is_error z }
 {
     4294967296 <= z
 }
 
 fn error_number(z: i64) -> usize
     requires { Failed z }
-    ensures* r_value { λ r. ⌜ r ≡ error_number z ⌝ }
-    ensures* r_bound { λ r. ⌜ r < 2048 ⌝ }
+    ensures r_value { result ≡ error_number z }
+    ensures r_bound { result < 2048 }
 {
     (z - 4294967297) as usize
 }
 
 pub(crate) fn error_node(z: i64) -> usize
     requires { Failed z }
-    ensures* r_value { λ r. ⌜ r ≡ error_node z ⌝ }
-    ensures* r_bound { λ r. ⌜ r < 1024 ⌝ }
+    ensures r_value { result ≡ error_node z }
+    ensures r_bound { result < 1024 }
 {
     error_number(z) / 2
 }
 
 pub(crate) fn error_kind(z: i64) -> usize
     requires { Failed z }
-    ensures* r_value { λ r. ⌜ r ≡ error_kind z ⌝ }
-    ensures* r_bound { λ r. ⌜ r ≤ 2 ⌝ }
+    ensures r_value { result ≡ error_kind z }
+    ensures r_bound { result ≤ 2 }
 {
     1 + error_number(z) % 2
 }
 
 pub(crate) fn word_of(z: i64) -> i32
     requires { SFits w32 z }
-    ensures* { λ r. ⌜ r ≡ z ⌝ }
+    ensures { result ≡ z }
 {
     z as i32
 }
 
 pub(crate) fn is_true(z: i64) -> bool
-    ensures* { λ r. ⌜ r ≡ eq_z z (pos 1) ⌝ }
+    ensures { result ≡ eq_z z (pos 1) }
 {
     z == 1
 }
 
 fn code_of(t: bool) -> i64
-    ensures* { λ r. ⌜ r ≡ truth_number t ⌝ }
+    ensures { result ≡ truth_number t }
 {
     if t { 1 } else { 0 }
 }
@@ -83,8 +83,8 @@ fn code_of(t: bool) -> i64
 // The exact result z of the node n where it is a word, else an overflow.
 fn fit(n: usize, z: i64) -> i64
     requires { n < 1024 }
-    ensures* fact { λ r. ⌜ ((p : ℕ) → evaluation_of r p ≡ fit_of n z p) ⌝ }
-    ensures* fact_2 { λ r. ⌜ Code r ⌝ }
+    ensures fact { (p : ℕ) → evaluation_of result p ≡ fit_of n z p }
+    ensures fact_2 { Code result }
 {
     if (-2147483648 <= z) & (z <= 2147483647) {
         z
@@ -96,16 +96,16 @@ fn fit(n: usize, z: i64) -> i64
 // The exact result z of a division by b at the node n, or the error that b is 0.
 fn divide(n: usize, b: i32, z: i64) -> i64
     requires { n < 1024 }
-    ensures* fact { λ r. ⌜ ((p : ℕ) → evaluation_of r p ≡ perform_by (eq_z b (pos 0)) n z p) ⌝ }
-    ensures* fact_2 { λ r. ⌜ Code r ⌝ }
+    ensures fact { (p : ℕ) → evaluation_of result p ≡ perform_by (eq_z b (pos 0)) n z p }
+    ensures fact_2 { Code result }
 {
     if same(b, 0) { failed(n, 2) } else { fit(n, z) }
 }
 
 fn perform(n: usize, k: usize, a: i32, b: i32) -> i64
     requires { n < 1024 }
-    ensures* fact { λ r. ⌜ ((p : ℕ) → evaluation_of r p ≡ perform_of n (kind_operation k) a b p) ⌝ }
-    ensures* fact_2 { λ r. ⌜ Code r ⌝ }
+    ensures fact { (p : ℕ) → evaluation_of result p ≡ perform_of n (kind_operation k) a b p }
+    ensures fact_2 { Code result }
 {
     match k {
         4 => fit(n, plus(a, b)),
@@ -118,8 +118,8 @@ fn perform(n: usize, k: usize, a: i32, b: i32) -> i64
 
 // The next word if it lies in a..b, else a; with no word left, a.
 fn input(a: i32, b: i32, schedule: &[i32], at: &mut usize) -> i64
-    ensures* at_after { λ r. ⌜ evaluation_of r at.new ≡ input_by (ltb at.old (length schedule.now)) a b (word_of schedule.now at.old) at.old ⌝ }
-    ensures* fact { λ r. ⌜ Code r ⌝ }
+    ensures at_after { evaluation_of result at.new ≡ input_by (ltb at.old (length schedule.now)) a b (word_of schedule.now at.old) at.old }
+    ensures fact { Code result }
 {
     let p = *at;
     if p < schedule.len() {
@@ -136,7 +136,7 @@ fn input(a: i32, b: i32, schedule: &[i32], at: &mut usize) -> i64
 }
 
 fn test(k: usize, a: i32, b: i32) -> bool
-    ensures* { λ r. ⌜ r ≡ test_of (kind_comparison k) a b ⌝ }
+    ensures { result ≡ test_of (kind_comparison k) a b }
 {
     match k {
         16 => a < b,
@@ -147,7 +147,7 @@ fn test(k: usize, a: i32, b: i32) -> bool
 }
 
 fn pair(k: usize, x: bool, y: bool) -> bool
-    ensures* { λ r. ⌜ r ≡ kind_pair k x y ⌝ }
+    ensures { result ≡ kind_pair k x y }
 {
     if k == 20 { x & y } else { x | y }
 }
@@ -157,8 +157,8 @@ fn pair(k: usize, x: bool, y: bool) -> bool
 fn negated(n: usize, x: i64) -> i64
     requires n_bound { n < 1024 }
     requires code { Code x }
-    ensures* fact { λ r. ⌜ ((p : ℕ) → evaluation_of r p ≡ value_then (evaluation_of x p) (λ a q. fit_of n (neg_ℤ a) q)) ⌝ }
-    ensures* fact_2 { λ r. ⌜ Code r ⌝ }
+    ensures fact { (p : ℕ) → evaluation_of result p ≡ value_then (evaluation_of x p) (λ a q. fit_of n (neg_ℤ a) q) }
+    ensures fact_2 { Code result }
 {
     if is_error(x) {
         x
@@ -170,8 +170,8 @@ fn negated(n: usize, x: i64) -> i64
 fn performed(n: usize, k: usize, a: i32, y: i64) -> i64
     requires n_bound { n < 1024 }
     requires code { Code y }
-    ensures* fact { λ r. ⌜ ((p : ℕ) → evaluation_of r p ≡ value_then (evaluation_of y p) (λ b q. perform_of n (kind_operation k) a b q)) ⌝ }
-    ensures* fact_2 { λ r. ⌜ Code r ⌝ }
+    ensures fact { (p : ℕ) → evaluation_of result p ≡ value_then (evaluation_of y p) (λ b q. perform_of n (kind_operation k) a b q) }
+    ensures fact_2 { Code result }
 {
     if is_error(y) {
         y
@@ -182,8 +182,8 @@ fn performed(n: usize, k: usize, a: i32, y: i64) -> i64
 
 fn compared(k: usize, a: i32, y: i64) -> i64
     requires { Code y }
-    ensures* fact { λ r. ⌜ ((p : ℕ) → verity_of r p ≡ value_then_tell (evaluation_of y p) (λ b q. Truth (test_of (kind_comparison k) a b) q)) ⌝ }
-    ensures* fact_2 { λ r. ⌜ Code r ⌝ }
+    ensures fact { (p : ℕ) → verity_of result p ≡ value_then_tell (evaluation_of y p) (λ b q. Truth (test_of (kind_comparison k) a b) q) }
+    ensures fact_2 { Code result }
 {
     if is_error(y) {
         y
@@ -194,8 +194,8 @@ fn compared(k: usize, a: i32, y: i64) -> i64
 
 fn paired(k: usize, t: bool, y: i64) -> i64
     requires { Code y }
-    ensures* fact { λ r. ⌜ ((p : ℕ) → verity_of r p ≡ truth_then (verity_of y p) (λ u q. Truth (kind_pair k t u) q)) ⌝ }
-    ensures* fact_2 { λ r. ⌜ Code r ⌝ }
+    ensures fact { (p : ℕ) → verity_of result p ≡ truth_then (verity_of y p) (λ u q. Truth (kind_pair k t u) q) }
+    ensures fact_2 { Code result }
 {
     if is_error(y) {
         y
@@ -206,8 +206,8 @@ fn paired(k: usize, t: bool, y: i64) -> i64
 
 fn opposite(x: i64) -> i64
     requires { Code x }
-    ensures* fact { λ r. ⌜ ((p : ℕ) → verity_of r p ≡ truth_then (verity_of x p) (λ t q. Truth (not t) q)) ⌝ }
-    ensures* fact_2 { λ r. ⌜ Code r ⌝ }
+    ensures fact { (p : ℕ) → verity_of result p ≡ truth_then (verity_of x p) (λ t q. Truth (not t) q) }
+    ensures fact_2 { Code result }
 {
     if is_error(x) { x } else { code_of(!is_true(x)) }
 }
@@ -219,8 +219,8 @@ fn leaf<'a>(program: &'a [i32; 5121], n: usize, values: &'a [i32; 16]) -> i64
     requires program_len { length program.now ≡ 5121 }
     requires n_bound { n < 1024 }
     requires leaf { Leaf (number_at program.now (4 * n)) }
-    ensures* fact { λ r. ⌜ ((ws : List ℤ) (p : ℕ) → evaluation_of r p ≡ result (arith_at (nodes_in program.now) n) values.now ws p) ⌝ }
-    ensures* fact_2 { λ r. ⌜ Code r ⌝ }
+    ensures fact { (ws : List ℤ) (p : ℕ) → evaluation_of result p ≡ result_of (arith_at (nodes_in program.now) n) values.now ws p }
+    ensures fact_2 { Code result }
 {
     match number(program[4 * n]) {
         0 => widen(program[4 * n + 1]),
@@ -240,8 +240,8 @@ fn operand<'a, 'b>(
 ) -> i64
     requires program_len { length program.now ≡ 5121 }
     requires n_bound { n < 1024 }
-    ensures* at_after { λ r. ⌜ evaluation_of r at.new ≡ result (arith_at (nodes_in program.now) n) values.now schedule.now at.old ⌝ }
-    ensures* fact { λ r. ⌜ Code r ⌝ }
+    ensures at_after { evaluation_of result at.new ≡ result_of (arith_at (nodes_in program.now) n) values.now schedule.now at.old }
+    ensures fact { Code result }
 {
     match number(program[4 * n]) {
         0 => leaf(program, n, values),
@@ -262,8 +262,8 @@ pub(crate) fn value<'a, 'b>(
 ) -> i64
     requires program_len { length program.now ≡ 5121 }
     requires n_bound { n < 1024 }
-    ensures* at_after { λ r. ⌜ evaluation_of r at.new ≡ result (arith_at (nodes_in program.now) n) values.now schedule.now at.old ⌝ }
-    ensures* fact { λ r. ⌜ Code r ⌝ }
+    ensures at_after { evaluation_of result at.new ≡ result_of (arith_at (nodes_in program.now) n) values.now schedule.now at.old }
+    ensures fact { Code result }
 {
     let k = number(program[4 * n]);
     let a = number(program[4 * n + 1]);
@@ -315,8 +315,8 @@ pub(crate) fn verity<'a, 'b>(
 ) -> i64
     requires program_len { length program.now ≡ 5121 }
     requires n_bound { n < 1024 }
-    ensures* at_after { λ r. ⌜ verity_of r at.new ≡ truth (cond_at (nodes_in program.now) n) values.now schedule.now at.old ⌝ }
-    ensures* fact { λ r. ⌜ Code r ⌝ }
+    ensures at_after { verity_of result at.new ≡ truth (cond_at (nodes_in program.now) n) values.now schedule.now at.old }
+    ensures fact { Code result }
 {
     let k = number(program[4 * n]);
     let a = number(program[4 * n + 1]);

@@ -1,4 +1,5 @@
 // The run of a table by a schedule: its state, one step, and the whole.
+#![tactic(auto)]
 ghost use Rattle.run.specs.Laws.{Laws};
 
 mod evaluate;
@@ -9,7 +10,7 @@ mod step;
 // Document 01's numbers: each task's point, each variable, each mutex's owner or -1, each task's stop node or -1 and stop kind or 0. Slots past
 // the sizes are 0. A step copies the state, so its slots are narrow: of a table that passed refusals 1 to 6 a point is below 256, an owner below 8,
 // a stop node below 1024 and a stop kind below 3.
-#[derive(Drop)]
+#[derive(Clone, Copy)]
 pub struct State {
     pub points: [u16; 8],
     pub values: [i32; 16],
@@ -19,14 +20,14 @@ pub struct State {
 }
 
 // A state, and the position in the schedule.
-#[derive(Drop)]
+#[derive(Clone, Copy)]
 pub struct Stepped {
     pub state: State,
     pub at: usize,
 }
 
 // What a run gives: passed with the last state, or the table's refusal with a state of zeros. (An enum cannot hold a state's arrays.)
-#[derive(Drop)]
+#[derive(Clone, Copy)]
 pub struct Played {
     pub stage: words::Stage,
     pub state: State,

@@ -5,7 +5,7 @@ ghost use Rattle.words.specs.Words.{word_of};
 ghost use Rattle.table.specs.Layout.{points_of};
 ghost use Rattle.table.specs.Decode.{point_of};
 ghost use Rattle.table.specs.Tree.{arith_at, cond_at};
-ghost use Rattle.table.specs.Meaning.{result, truth};
+ghost use Rattle.table.specs.Meaning.{result as result_of, truth};
 ghost use Rattle.run.specs.Codes.{nodes_in, tasks_in, Kept, Loaded};
 ghost use Rattle.run.specs.State.{is_free, is_number, state_of};
 ghost use Rattle.run.specs.Step.{stepped, assign_by, test_by, lock_by, unlock_by, act_of, step_of};
@@ -20,7 +20,7 @@ use words::{number_at, part};
 
 // A point in its slot, as a number.
 fn wide(p: u16) -> usize
-    ensures* { λ r. ⌜ r ≡ p ⌝ }
+    ensures { result ≡ p }
 {
     p as usize
 }
@@ -28,7 +28,7 @@ fn wide(p: u16) -> usize
 // Whether the mutex m has no owner.
 fn is_free(owners: &[i8; 8], m: usize) -> bool
     requires { m < 8 }
-    ensures* { λ r. ⌜ r ≡ is_free (word_of owners.now m) ⌝ }
+    ensures { result ≡ is_free (word_of owners.now m) }
 {
     owners[m] == -1
 }
@@ -36,7 +36,7 @@ fn is_free(owners: &[i8; 8], m: usize) -> bool
 // Whether the owner of the mutex m is the task u.
 fn owns(owners: &[i8; 8], m: usize, u: usize) -> bool
     requires { (m < 8) × (u < 8) }
-    ensures* { λ r. ⌜ r ≡ is_number (word_of owners.now m) u ⌝ }
+    ensures { result ≡ is_number (word_of owners.now m) u }
 {
     owners[m] == u as i8
 }
@@ -44,7 +44,7 @@ fn owns(owners: &[i8; 8], m: usize, u: usize) -> bool
 // Whether u is a task that hasn't stopped.
 fn runs(program: &[i32; 5121], stop_kinds: &[u8; 8], u: usize) -> bool
     requires { tasks_in program.now ≤ 8 }
-    ensures* { λ r. ⌜ r ≡ ltb u (tasks_in program.now) && eqb (get_or stop_kinds.now u 0) 0 ⌝ }
+    ensures { result ≡ ltb u (tasks_in program.now) && eqb (get_or stop_kinds.now u 0) 0 }
 {
     if u < number_at(program, 5120) {
         stop_kinds[u] == 0
@@ -54,7 +54,7 @@ fn runs(program: &[i32; 5121], stop_kinds: &[u8; 8], u: usize) -> bool
 }
 
 fn pick(t: bool, y: u16, n: u16) -> u16
-    ensures* { λ r. ⌜ r ≡ cond t y n ⌝ }
+    ensures { result ≡ cond t y n }
 {
     if t { y } else { n }
 }
@@ -62,8 +62,8 @@ fn pick(t: bool, y: u16, n: u16) -> u16
 // The task u stops at the node n with an error of the kind k.
 fn stop<'a>(stop_nodes: &'a mut [i16; 8], stop_kinds: &'a mut [u8; 8], u: usize, n: usize, k: usize)
     requires { (u < 8) × (n < 1024) × (k ≤ 2) }
-    ensures* stop_nodes_after { λ r. ⌜ stop_nodes.new ≡ set stop_nodes.old u (pos n) ⌝ }
-    ensures* stop_kinds_after { λ r. ⌜ stop_kinds.new ≡ set stop_kinds.old u k ⌝ }
+    ensures stop_nodes_after { stop_nodes.new ≡ set stop_nodes.old u (pos n) }
+    ensures stop_kinds_after { stop_kinds.new ≡ set stop_kinds.old u k }
 {
     stop_nodes[u] = n as i16;
     stop_kinds[u] = k as u8;
@@ -86,7 +86,7 @@ fn assign<'a, 'b>(
     q: usize,
 ) -> usize
     requires { (u < 8) × (v < 16) × (e < 1024) × (q < 256) × (length program.now ≡ 5121) }
-    ensures* { λ r. ⌜ ((o : List ℤ) → stepped (state_of points.new values.new o stop_nodes.new stop_kinds.new) r ≡ assign_by (result (arith_at (nodes_in program.now) e) values.old schedule.now at) (state_of points.old values.old o stop_nodes.old stop_kinds.old) u v q) ⌝ }
+    ensures { (o : List ℤ) → stepped (state_of points.new values.new o stop_nodes.new stop_kinds.new) result ≡ assign_by (result_of (arith_at (nodes_in program.now) e) values.old schedule.now at) (state_of points.old values.old o stop_nodes.old stop_kinds.old) u v q }
 {
     let mut last = at;
     let z = value(program, e, &*values, schedule, &mut last);
@@ -114,7 +114,7 @@ fn test<'a, 'b>(
     n: usize,
 ) -> usize
     requires { (u < 8) × (c < 1024) × (y < 256) × (n < 256) × (length program.now ≡ 5121) }
-    ensures* { λ r. ⌜ ((o : List ℤ) → stepped (state_of points.new values.now o stop_nodes.new stop_kinds.new) r ≡ test_by (truth (cond_at (nodes_in program.now) c) values.now schedule.now at) (state_of points.old values.now o stop_nodes.old stop_kinds.old) u y n) ⌝ }
+    ensures { (o : List ℤ) → stepped (state_of points.new values.now o stop_nodes.new stop_kinds.new) result ≡ test_by (truth (cond_at (nodes_in program.now) c) values.now schedule.now at) (state_of points.old values.now o stop_nodes.old stop_kinds.old) u y n }
 {
     let mut last = at;
     let z = verity(program, c, values, schedule, &mut last);
@@ -129,7 +129,7 @@ fn test<'a, 'b>(
 // A lock of m by the task u, going on at q.
 fn lock<'a>(points: &'a mut [u16; 8], owners: &'a mut [i8; 8], u: usize, m: usize, q: usize)
     requires { (u < 8) × (m < 8) × (q < 256) }
-    ensures* { λ r. ⌜ ((v n : List ℤ) (k : List ℕ) → state_of points.new v owners.new n k ≡ lock_by (is_free (word_of owners.old m)) (state_of points.old v owners.old n k) u m q) ⌝ }
+    ensures { (v n : List ℤ) (k : List ℕ) → state_of points.new v owners.new n k ≡ lock_by (is_free (word_of owners.old m)) (state_of points.old v owners.old n k) u m q }
 {
     if is_free(&*owners, m) {
         owners[m] = u as i8;
@@ -140,7 +140,7 @@ fn lock<'a>(points: &'a mut [u16; 8], owners: &'a mut [i8; 8], u: usize, m: usiz
 // An unlock of m by the task u, going on at q.
 fn unlock<'a>(points: &'a mut [u16; 8], owners: &'a mut [i8; 8], u: usize, m: usize, q: usize)
     requires { (u < 8) × (m < 8) × (q < 256) }
-    ensures* { λ r. ⌜ ((v n : List ℤ) (k : List ℕ) → state_of points.new v owners.new n k ≡ unlock_by (is_number (word_of owners.old m) u) (state_of points.old v owners.old n k) u m q) ⌝ }
+    ensures { (v n : List ℤ) (k : List ℕ) → state_of points.new v owners.new n k ≡ unlock_by (is_number (word_of owners.old m) u) (state_of points.old v owners.old n k) u m q }
 {
     if owns(&*owners, m, u) {
         owners[m] = -1;
@@ -161,7 +161,7 @@ fn act<'a, 'b>(
     u: usize,
 ) -> usize
     requires { Loaded program.now × (u < tasks_in program.now) }
-    ensures* { λ r. ⌜ ((t : List ℤ) → Kept t program.now → stepped (state_of points.new values.new owners.new stop_nodes.new stop_kinds.new) r ≡ act_of t schedule.now (point_of (points_of t) (get_or points.old u 0)) (state_of points.old values.old owners.old stop_nodes.old stop_kinds.old) u at) ⌝ }
+    ensures { (t : List ℤ) → Kept t program.now → stepped (state_of points.new values.new owners.new stop_nodes.new stop_kinds.new) result ≡ act_of t schedule.now (point_of (points_of t) (get_or points.old u 0)) (state_of points.old values.old owners.old stop_nodes.old stop_kinds.old) u at }
 {
     let what = point_at(part(program, 4096, 1024), wide(points[u]));
     match what {
@@ -195,7 +195,7 @@ pub(crate) fn advance<'a, 'b>(
     at: usize,
 ) -> usize
     requires { Loaded program.now }
-    ensures* { λ r. ⌜ ((t : List ℤ) → Kept t program.now → stepped (state_of points.new values.new owners.new stop_nodes.new stop_kinds.new) r ≡ step_of t schedule.now (state_of points.old values.old owners.old stop_nodes.old stop_kinds.old) at) ⌝ }
+    ensures { (t : List ℤ) → Kept t program.now → stepped (state_of points.new values.new owners.new stop_nodes.new stop_kinds.new) result ≡ step_of t schedule.now (state_of points.old values.old owners.old stop_nodes.old stop_kinds.old) at }
 {
     if schedule.len() <= at {
         return at;
@@ -226,7 +226,7 @@ impl State {
         schedule: &'a [i32],
     ) -> Stepped
         requires { Loaded program.now }
-        ensures* { λ r. ⌜ ((t : List ℤ) → Kept t program.now → r ≡ step_of t schedule.now self at) ⌝ }
+        ensures { (t : List ℤ) → Kept t program.now → result ≡ step_of t schedule.now self at }
     {
         let mut points = self.points;
         let mut values = self.values;

@@ -1,4 +1,5 @@
 // A task table: its layout, what stands at its nodes and points, and refusals 1 to 6.
+#![tactic(auto)]
 ghost use Rattle.table.specs.Laws.{Laws};
 ghost use Rattle.table.specs.Examples.{Starred};
 
@@ -9,7 +10,7 @@ mod uses;
 pub mod validate;
 
 // The five sizes.
-#[derive(Drop)]
+#[derive(Clone, Copy)]
 pub struct Sizes {
     pub tasks: usize,
     pub variables: usize,
@@ -19,7 +20,7 @@ pub struct Sizes {
 }
 
 // The four words of a point or a node.
-#[derive(Drop)]
+#[derive(Clone, Copy)]
 pub struct Four {
     pub kind: i32,
     pub a: i32,
@@ -28,7 +29,7 @@ pub struct Four {
 }
 
 // A node as the evaluators read it: its kind, the words of its first two fields, and the numbers of all three.
-#[derive(Drop)]
+#[derive(Clone, Copy)]
 pub struct Node {
     pub kind: usize,
     pub x: i32,
@@ -40,7 +41,7 @@ pub struct Node {
 
 // What stands at a node, its children by their numbers. Kinds 4 to 7 are one shape with the operation's name, and so are 16 to 19 with the
 // comparison's. Bad: an unknown kind, or a child that is not below its parent.
-#[derive(Drop)]
+#[derive(Clone, Copy)]
 pub enum Shape {
     Constant(i32),
     Input(i32, i32),
@@ -56,7 +57,7 @@ pub enum Shape {
 }
 
 // What stands at a point. An unknown kind is an end.
-#[derive(Drop)]
+#[derive(Clone, Copy)]
 pub enum Point {
     End,
     // variable, arithmetic node, target
@@ -69,7 +70,7 @@ pub enum Point {
 }
 
 // What the fields of a point may name: so many variables, mutexes and nodes, and the points of its task, from first on and below last.
-#[derive(Drop)]
+#[derive(Clone, Copy)]
 pub struct Bounds {
     pub variables: usize,
     pub mutexes: usize,
@@ -80,14 +81,14 @@ pub struct Bounds {
 
 // What the evaluation of arithmetic comes to, with the position in the schedule after it: a value, or an error at a node, of a kind (1
 // overflow, 2 division by zero).
-#[derive(Drop)]
+#[derive(Clone, Copy)]
 pub enum Evaluation {
     Value(i32, usize),
     Error(usize, usize, usize),
 }
 
 // The same of a condition.
-#[derive(Drop)]
+#[derive(Clone, Copy)]
 pub enum Verity {
     Truth(bool, usize),
     Failure(usize, usize, usize),

@@ -16,7 +16,7 @@ use Rattle.words.proofs.Bools.{clash}
 
 -- a signed argument or result is read back from its bits: from a call's `.ok`, or `.given` of a read
 pub read_back : {z : ℤ} → mag z < 2147483648 → to_z w32 (of_z w32 z) ≡ z
-read_back p = to_z-of_z (record { sfits = p })
+read_back p = to_z-of_z {w = w32} (record { sfits = p })
 
 -- the sign of a word, as the code tests it
 sign : (z : ℤ) {t : Bool} → SFits w32 z → lt_z (to_z w32 (of_z w32 z)) (pos 0) ≡ t → lt_z z (pos 0) ≡ t

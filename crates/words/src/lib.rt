@@ -1,4 +1,5 @@
 // What every layer reads and refuses with: total reading of words, the smallest failing place, stages of refusals.
+#![tactic(auto)]
 ghost use Rattle.std.specs.Prelude.{◌≡◌, ◌≤◌};
 ghost use Rattle.words.specs.Words.{word_of, number_of, number_at, part_of};
 ghost use Rattle.words.specs.Laws.{Laws};
@@ -6,14 +7,14 @@ ghost use Rattle.words.specs.Laws.{Laws};
 pub mod bytes;
 
 // What a search for the first failing place gives.
-#[derive(Drop)]
+#[derive(Clone, Copy)]
 pub enum Found {
     Nothing,
     At(usize),
 }
 
 // What a stage of refusals gives: passed, or the first broken rule with its smallest place.
-#[derive(Drop)]
+#[derive(Clone, Copy)]
 pub enum Stage {
     Passed,
     Broken(u32, usize),
