@@ -1,0 +1,22 @@
+-- `analysis::evaluate::no_condition` meets its contract: where there is no row that it is joined to, the copy that stands there is what is left.
+-- Assumes nothing.
+use mathlib.Core.Path.{refl, sym, ap}
+use mathlib.Core.Bool.{not}
+use mathlib.Core.List.{List}
+use lib.IntN.{ℤ}
+use Rattle.words.proofs.Bools.{clash}
+use Rattle.analysis.specs.Rows.{maybe_by}
+use Rattle.analysis.specs.Arrays.{row_in}
+use Rattle.analysis.proofs.NarrowCodeLaws.{add-alone, add-to}
+use Rattle.analysis.proofs.evaluate.no_condition.Goals as goal
+
+pub returns-then-asked : goal.returns-then-asked
+returns-then-asked c =
+    (λ e. clash (sym e), (refl, (refl, add-to _ _ c.if-asked.true c.widen_if.ensures)))
+
+pub returns : goal.returns
+returns c =
+    let test = c in
+    let start = test in
+    let copied = start.requires (ap not test.if-asked.false) in
+    (λ e. copied, (refl, (refl, add-alone (row_in start.args.joined.now) _ test.if-asked.false (ap (λ (ws : List ℤ). maybe_by start.args.asked.truth (row_in ws)) copied))))

@@ -1,0 +1,18 @@
+-- `analysis::evaluate::sides` meets its contract: the condition narrows a copy and joins to none, and where it left none the rows are cleared.
+-- Assumes nothing.
+use mathlib.Core.Path.{ap, ◌∙◌}
+use Rattle.analysis.specs.Arrays.{left_of}
+use Rattle.analysis.proofs.WalkLaws.{sides-of, split-is}
+use Rattle.analysis.proofs.evaluate.sides.Goals as goal
+
+pub returns : goal.returns
+returns c =
+    let no = c in
+    let yes = no in
+    let said = sides-of _ _ _ _ yes.split-s.ensures.decision_value in (
+      split-is _ _ _ _ _ said.0 said.1.0 said.1.1.0,
+      (
+        yes.clear_unless.ensures ∙ ap left_of said.1.0,
+        (no.clear_unless-2.ensures ∙ ap left_of said.1.1.0, said.1.1.1),
+      ),
+    )

@@ -1,0 +1,59 @@
+-- `analysis::narrow::add_cuts` meets its contract: cuts that leave nothing add nothing, and else both intervals are put into the row that is joined, or
+-- into the copy that stands there where there is none to join it to.
+-- Assumes nothing.
+use mathlib.Core.Path.{sym, ap, ◌∙◌}
+use mathlib.Core.Bool.{not}
+use Rattle.words.proofs.Bools.{clash}
+use Rattle.words.proofs.Signed.{read_back}
+use Rattle.analysis.specs.Rows.{maybe_by}
+use Rattle.analysis.specs.Arrays.{row_in}
+use Rattle.analysis.proofs.NarrowCodeLaws.{join-first-none, join-last-none, join-cuts, add-alone, add-to, put_both}
+use Rattle.analysis.proofs.narrow.add_cuts.Goals as goal
+
+pub returns-in_default : goal.returns-in_default
+returns-in_default c =
+    let start = c in
+    let given = start.args in
+    record { copy_if_2 = start.requires.copy_if; row_after = join-first-none _ given.from.now given.v given.w given.u c.enum_told-1.given.1 }
+
+pub returns-in_default-last : goal.returns-in_default-last
+returns-in_default-last c =
+    let left = c in
+    let met = left in
+    let whole = met in
+    let start = whole in
+    let given = start.args in record { copy_if_2 = start.requires.copy_if; row_after = join-last-none _ given.from.now given.v given.w given.u whole.more-1.given.0 start.requires.v_bound left.left-1.given.1 (sym met.met_if-last.ensures ∙ c.enum_told-in_default-last-1.given.1) }
+
+pub returns-then-some : goal.returns-then-some
+unfolding maybe_by
+returns-then-some c =
+    let test = c in
+    let told₂ = test in
+    let matched₂ = told₂ in
+    let told = matched₂ in
+    let matched = told in
+    let met = matched in
+    let whole = met in
+    let start = whole in
+    let given = start.args in
+    let low = read_back {z = matched.left-1.given.0.0} told.known_told-1.given.0.1 in
+    let high = read_back {z = matched.left-1.given.0.1.0} told.known_told-1.given.1.0.1 in
+    let low₂ = read_back {z = matched₂.last-1.given.0.0} told₂.known_told-in-Between-last-1.given.0.1 in
+    let high₂ = read_back {z = matched₂.last-1.given.0.1.0} told₂.known_told-in-Between-last-1.given.1.0.1 in record { copy_if_2 = λ e. clash (sym e); row_after = join-cuts _ given.from.now given.v given.w given.u whole.more-1.given.0 start.requires.v_bound matched.left-1.given.1
+          (sym met.met_if-last.ensures ∙ matched₂.last-1.given.1)
+          (add-to _ _ test.if-some.true (rw (low, high, low₂, high₂) at c.widen_cut.ensures)) }
+
+pub returns : goal.returns
+unfolding maybe_by
+returns c =
+    let first = c in
+    let test = first in
+    let matched₂ = test in
+    let matched = matched₂ in
+    let met = matched in
+    let whole = met in
+    let start = whole in
+    let given = start.args in record { copy_if_2 = λ e. clash (sym e); row_after = join-cuts _ given.from.now given.v given.w given.u whole.more-1.given.0 start.requires.v_bound matched.left-1.given.1
+          (sym met.met_if-last.ensures ∙ matched₂.last-1.given.1)
+          (add-alone (row_in given.row.now) _ test.if-some.false
+          (put_both _ _ _ given.v given.w _ _ _ _ first.put.result c.put-2.result (ap row_in (start.requires.copy_if (ap not test.if-some.false))) first.put.ensures c.put-2.ensures)) }

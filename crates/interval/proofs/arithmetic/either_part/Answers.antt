@@ -1,0 +1,31 @@
+-- `either_part` gives what its arm says, and the arms' equations say which parts have a pair.
+-- Assumes nothing.
+use mathlib.Core.Path.{◌∙◌}
+use mir.Facts.{to_z-of_z}
+use Rattle.interval.specs.Arithmetic.{either_part_of}
+use Rattle.interval.proofs.Machine.{ok64}
+use Rattle.interval.proofs.MachineArithmetic.{handed-pair}
+use Rattle.interval.proofs.arithmetic.either_part.Goals as goal
+
+pub returns-in-NoPair : goal.returns-in-NoPair
+unfolding either_part_of
+returns-in-NoPair c = rw c.enum_told-1.given.1
+
+pub returns-in-NoPair-v : goal.returns-in-NoPair-v
+unfolding either_part_of
+returns-in-NoPair-v c = rw (c.u-1.given.1, c.enum_told-in-NoPair-v-1.given.1)
+
+pub returns-in-Pair-v : goal.returns-in-Pair-v
+unfolding either_part_of
+returns-in-Pair-v c =
+    let low = c.min64 in
+    let high = c.max64 in
+    let right = c in
+    let left = right in
+    let u = left.u-1.given in
+    let v = right.v-1.given in
+    let fa = ok64 u.0.0 left.known_told-1.given.0.1 in
+    let fb = ok64 u.0.1.0 left.known_told-1.given.1.0.1 in
+    let fc = ok64 v.0.0 right.known_told-in-Pair-1.given.0.1 in
+    let fd = ok64 v.0.1.0 right.known_told-in-Pair-1.given.1.0.1 in
+    rw (u.1, v.1) (handed-pair low.ensures low.type_inv high.ensures high.type_inv ∙ simp to_z-of_z)

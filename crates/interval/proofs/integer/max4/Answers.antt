@@ -1,0 +1,15 @@
+-- `interval::integer::max4` meets its contract: it is the definition, a call for each step.
+-- Assumes nothing.
+use mathlib.Core.Path.{◌∙◌}
+use borrow.Author.Rules.{rules}
+use Rattle.interval.specs.Integer.{max_z, max4_z}
+use Rattle.interval.proofs.Machine.{ok64, through-bits}
+use Rattle.interval.proofs.integer.max4.Goals as goal
+
+pub returns : goal.returns
+unfolding max4_z
+returns c =
+    let left = c.max64 in
+    let right = c.max64-2 in
+    let r = c.max64-3 in
+    through-bits max_z (ok64 left.result left.type_inv) (ok64 right.result right.type_inv) (ok64 r.result r.type_inv) r.ensures ∙ search (rules, left.ensures, right.ensures)

@@ -1,0 +1,37 @@
+-- `interval::lattice::join` meets its contract: what `taken` gives of each side decides the definition, and the calls give the ends of the result.
+-- Assumes nothing.
+use mathlib.Core.Path.{sym, ◌∙◌}
+use mir.Val.{SFits}
+use mir.Syntax.{w32}
+use mir.Facts.{to_z-of_z}
+use borrow.Author.Rules.{rules}
+use Rattle.interval.specs.Lattice.{join_of}
+use Rattle.interval.proofs.IntervalLaws.{taken-ends, taken_none}
+use Rattle.interval.proofs.lattice.join.Goals as goal
+
+pub returns-in_default : goal.returns-in_default
+unfolding join_of
+returns-in_default c =
+    let x = c in
+    c.taken-in_default.ensures ∙ sym (taken_none _ _ _ (sym x.taken.ensures ∙ x.enum_told-1.given.1))
+
+pub returns-in_default-taken : goal.returns-in_default-taken
+unfolding join_of
+returns-in_default-taken c =
+    let y = c in
+    let x = y in
+    let x-ends = sym x.taken.ensures ∙ x.a-1.given.1 in
+    let y-none = sym y.taken-2.ensures ∙ c.enum_told-in_default-taken-1.given.1 in
+    rw (taken-ends _ _ _ _ _ x-ends, taken_none _ _ _ y-none) (search rules)
+
+pub returns : goal.returns
+unfolding join_of
+returns c =
+    let low = c in
+    let y = low in
+    let x = y in
+    let x-ends = sym x.taken.ensures ∙ x.a-1.given.1 in
+    let y-ends = sym y.taken-2.ensures ∙ y.c-1.given.1 in
+    let low_fits : SFits w32 low.min32.result = search rules in
+    let high_fits : SFits w32 c.max32.result = search rules in
+    rw (taken-ends _ _ _ _ _ x-ends, taken-ends _ _ _ _ _ y-ends) (simp to_z-of_z (search (rules, low.min32.ensures, c.max32.ensures)))

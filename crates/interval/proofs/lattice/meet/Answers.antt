@@ -1,0 +1,40 @@
+-- `interval::lattice::meet` meets its contract: what `taken` gives of each side decides the definition, and the calls give the ends of the result.
+-- Assumes nothing.
+use mathlib.Core.Path.{sym, ◌∙◌}
+use mir.Val.{SFits}
+use mir.Syntax.{w32}
+use mir.Facts.{to_z-of_z}
+use borrow.Author.Rules.{rules}
+use Rattle.interval.specs.Lattice.{meet_of}
+use Rattle.interval.proofs.IntervalLaws.{taken-ends, taken_none}
+use Rattle.interval.proofs.lattice.meet.Goals as goal
+
+pub returns-in_default : goal.returns-in_default
+unfolding meet_of
+returns-in_default c = sym (taken_none _ _ _ (sym c.taken.ensures ∙ c.enum_told-1.given.1))
+
+pub returns-in_default-taken : goal.returns-in_default-taken
+unfolding meet_of
+returns-in_default-taken c =
+    let y = c in
+    let x = y in
+    let x-ends = sym x.taken.ensures ∙ x.a-1.given.1 in
+    let y-none = sym y.taken-2.ensures ∙ c.enum_told-in_default-taken-1.given.1 in
+    rw (taken-ends _ _ _ _ _ x-ends, taken_none _ _ _ y-none)
+
+-- x_Fits, that the ends of x fit, is bound since it lies too far back for `search` to find
+pub returns : goal.returns
+unfolding meet_of
+returns c =
+    let high = c in
+    let low = high in
+    let y = low in
+    let x-told = y in
+    let x = x-told in
+    let x_Fits = x-told.known_told-1.given in
+    let x-ends = sym x.taken.ensures ∙ x.a-1.given.1 in
+    let y-ends = sym y.taken-2.ensures ∙ y.c-1.given.1 in
+    let low_fits : SFits w32 low.max32.result = search rules in
+    let high_fits : SFits w32 high.min32.result = search rules in
+    let r = simp to_z-of_z at c.between.ensures in
+    rw (taken-ends _ _ _ _ _ x-ends, taken-ends _ _ _ _ _ y-ends) (search (rules, r, low.max32.ensures, high.min32.ensures))

@@ -1,0 +1,29 @@
+-- `interval::lattice::within` meets its contract: what `taken` gives of each side decides the definition, and the tests are of the ends that it gives.
+-- Assumes nothing.
+use mathlib.Core.Path.{sym, ◌∙◌}
+use borrow.Author.Rules.{rules}
+use Rattle.interval.specs.Lattice.{within_of}
+use Rattle.interval.proofs.IntervalLaws.{taken-ends, taken_none}
+use Rattle.interval.proofs.lattice.within.Goals as goal
+
+pub returns-in_default : goal.returns-in_default
+unfolding within_of
+returns-in_default c = sym (taken_none _ _ _ (sym c.taken.ensures ∙ c.enum_told-1.given.1))
+
+pub returns-in_default-taken : goal.returns-in_default-taken
+unfolding within_of
+returns-in_default-taken c =
+    let y = c in
+    let x = y in
+    let x-ends = sym x.taken.ensures ∙ x.a-1.given.1 in
+    let y-none = sym y.taken-2.ensures ∙ c.enum_told-in_default-taken-1.given.1 in
+    rw (taken-ends _ _ _ _ _ x-ends, taken_none _ _ _ y-none)
+
+pub returns : goal.returns
+unfolding within_of
+returns c =
+    let y = c in
+    let x = y in
+    let x-ends = sym x.taken.ensures ∙ x.a-1.given.1 in
+    let y-ends = sym y.taken-2.ensures ∙ y.c-1.given.1 in
+    rw (taken-ends _ _ _ _ _ x-ends, taken-ends _ _ _ _ _ y-ends) (search rules)

@@ -1,0 +1,36 @@
+-- `iterator::nearest::ceil` meets its contract: each turn the nearest of one threshold more.
+-- Assumes nothing.
+use Prim.Native.Nat.{◌-◌, zero-le}
+use mathlib.Core.Path.{refl, ◌∙◌}
+use native.Mathlib.Nat.{le_antisymm}
+use native.Mathlib.Omega.{arith}
+use mir.Facts.{to_z-of_z}
+use Rattle.words.proofs.Signed.{read_back}
+use Rattle.proposer.specs.Widen.{ceil_of}
+use Rattle.iterator.proofs.NearestLaws.{ceil-next}
+use Rattle.iterator.proofs.nearest.ceil.Goals as goal
+
+pub loop-i-init : goal.loop-i-init
+unfolding ceil_of
+loop-i-init c = (zero-le, refl)
+
+pub loop-i-preserved : goal.loop-i-preserved
+loop-i-preserved c =
+    let read = c in
+    let turn = read in
+    let gives = c.nearer_above-best in
+    (omega arith, ceil-next _ _ _ (read_back read.nearer_above-arg-1.given) turn.loop-i.invariant.1 (read_back gives.type_inv ∙ gives.ensures))
+
+pub returns : goal.returns
+returns c =
+    let loop = c.loop-i in
+    let start = c in
+    loop.invariant.1 ∙ rw (le_antisymm loop.invariant.0 c.loop-i-test.false, to_z-of_z start.ranges.z) refl
+
+pub overflow_add-i : goal.overflow_add-i
+overflow_add-i c =
+    omega arith
+
+pub loop-i-smaller : goal.loop-i-smaller
+loop-i-smaller c =
+    omega arith

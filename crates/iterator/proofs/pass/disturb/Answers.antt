@@ -1,0 +1,24 @@
+-- `iterator::pass::disturb` meets its contract: an entry of the same task, and one whose set isn't disjoint, is left out.
+-- Assumes nothing.
+use mathlib.Core.Path.{◌∙◌}
+use Rattle.words.proofs.Bools.{holds, fails}
+use Rattle.iterator.proofs.PlannedLaws.{into-off, disturb-own, disturb-other}
+use Rattle.iterator.proofs.pass.disturb.Goals as goal
+
+pub returns-then-disjoint : goal.returns-then-disjoint
+returns-then-disjoint c =
+    let taken = c in
+    let other = taken in
+    let pre = other.requires in
+    c.entry_into.ensures
+    ∙ disturb-other pre.0 _ _ _ pre.1.0 pre.1.1 other.if-plan-q.false (holds taken.disjoint.ensures taken.if-disjoint.true)
+
+pub returns-else-disjoint : goal.returns-else-disjoint
+returns-else-disjoint c =
+    let other = c in
+    let pre = other.requires in
+    into-off _ _ _ _ _ ∙ disturb-other pre.0 _ _ _ pre.1.0 pre.1.1 other.if-plan-q.false (fails c.disjoint.ensures c.if-disjoint.false)
+
+pub returns-then-plan-q : goal.returns-then-plan-q
+returns-then-plan-q c =
+    let pre = c.requires in disturb-own pre.0 _ _ _ pre.1.0 pre.1.1 c.if-plan-q.true

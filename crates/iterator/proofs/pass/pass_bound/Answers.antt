@@ -1,0 +1,62 @@
+-- `iterator::pass::pass_bound` meets its contract: the bound fits a word by far. Assumes nothing.
+use Prim.Native.Nat.{ℕ, ◌+◌, ◌*◌, ◌≤◌}
+use mathlib.Core.Path.{refl}
+use native.Mathlib.Nat.{mul-le-mul_right}
+use native.Mathlib.Omega.{arith}
+use lib.ListN.{length}
+use Rattle.iterator.proofs.pass.pass_bound.Goals as goal
+
+-- the intervals of all rows and entries, and how many times their ends can move
+intervals-few : (p n m : ℕ) → p ≤ 256 → n ≤ 16 → m ≤ 8 → p * n + m * n + p ≤ 4480
+intervals-few p n m hp hn hm = omega (arith, mul-le-mul_right {m = p} {n = 256} n hp, mul-le-mul_right {m = m} {n = 8} n hm)
+
+moves-few : (l e : ℕ) → l ≤ 32 → e ≤ 4480 → 2 * (l + 1) * e ≤ 295680
+moves-few l e hl he = omega (arith, mul-le-mul_right {m = 2 * (l + 1)} {n = 66} e (omega arith))
+
+module _ (c : tie.After-number-at3) where
+  abbrev start : tie.Start
+  start = c.before.before.before
+
+  abbrev intervals_of : ℕ
+  intervals_of =
+      c.before.before.number_at.result * c.before.number-at2.result + c.number-at3.result * c.before.number-at2.result
+      + c.before.before.number_at.result
+
+  intervals : intervals_of ≤ 4480
+  intervals =
+      let passes = start.pre.0 in
+      intervals-few c.before.before.number_at.result c.before.number-at2.result c.number-at3.result
+      (omega (arith, c.before.before.number_at.ensures.0, passes.points.high))
+      (omega (arith, c.before.number-at2.ensures.0, passes.variables.high))
+      (omega (arith, c.number-at3.ensures.0, passes.mutexes.high))
+
+  moves : 2 * (length start.args.ts.now + 1) * intervals_of ≤ 295680
+  moves = moves-few (length start.args.ts.now) intervals_of start.pre.1 intervals
+
+pub overflow_mul-intervals : goal.overflow_mul-intervals
+overflow_mul-intervals c =
+    omega (arith, intervals c)
+
+pub overflow_mul-intervals-2 : goal.overflow_mul-intervals-2
+overflow_mul-intervals-2 c =
+    omega (arith, intervals c)
+
+pub overflow_add-intervals : goal.overflow_add-intervals
+overflow_add-intervals c =
+    omega (arith, intervals c)
+
+pub overflow_add-intervals-2 : goal.overflow_add-intervals-2
+overflow_add-intervals-2 c =
+    omega (arith, intervals c)
+
+pub overflow_mul-result-3 : goal.overflow_mul-result-3
+overflow_mul-result-3 c =
+    omega (arith, moves c)
+
+pub overflow_add-result-3 : goal.overflow_add-result-3
+overflow_add-result-3 c =
+    omega (arith, moves c, intervals c)
+
+pub returns : goal.returns
+returns c =
+    rw (c.number_at-points.ensures.value, c.number_at-variables.ensures.value, c.number_at-mutexes.ensures.value) refl

@@ -1,0 +1,12 @@
+-- `iterator::places::highs_at` meets its contract: the part begins where the contract says.
+-- Assumes nothing.
+use Prim.Native.Nat.{ℕ}
+use mathlib.Core.Path.{ap, ◌∙◌}
+use Rattle.words.specs.Words.{part_of}
+use Rattle.iterator.proofs.places.highs_at.Goals as goal
+
+pub returns : goal.returns
+returns c =
+    let from = c in
+    let args = from.args in
+    c.part.ensures ∙ ap (λ (i : ℕ). part_of args.ws.now i args.n) from.highs_from.ensures

@@ -1,0 +1,78 @@
+-- `iterator::plan::plan_for` meets its contract: after p turns plan and index have what is known of the points before p. Assumes nothing.
+use Prim.Native.Nat.{ℕ, ◌-◌, ◌<◌, ◌≤◌}
+use mathlib.Core.Path.{◌≡◌}
+use native.Mathlib.Omega.{arith}
+use Rattle.table.specs.Layout.{sizes_of}
+use Rattle.proposer.specs.Walk.{mark_count, held_in}
+use Rattle.proposer.proofs.SlotLaws.{head-below}
+use Rattle.iterator.specs.Arrays.{marks_in}
+use Rattle.iterator.specs.Book.{book_of}
+use Rattle.iterator.proofs.HeldLaws.{held_below, held-past, marks-length}
+use Rattle.iterator.proofs.HeadLaws.{heads-few}
+use Rattle.iterator.proofs.BookLaws.{made-start, made-few, made_more, made_held, made-indexed, made-planned}
+use Rattle.iterator.proofs.plan.plan_for.Goals as goal
+
+pub loop-p-init : goal.loop-p-init
+loop-p-init c =
+    let start = c in
+    let t = start.args.t.now in
+    let h = held_in t (marks_in (mark_count t) start.args.marks.now) in
+    (made-start t h start.args.plan.now start.args.index.now start.requires.plan_value.0 start.requires.plan_value.1, omega arith)
+
+pub enter-count-requires : goal.enter-count-requires
+enter-count-requires c =
+    let is-point : c.loop-p.p < (sizes_of c.args.t.now).points =
+        rw c.number_at-points.ensures.value at c.loop-p-test.true in
+    let turn = c in
+    let loop = turn in
+    let start = loop in
+    let t = start.args.t.now in record { passes = start.requires.passes; p_bound = (
+        is-point,
+        made-few t (held_in t (marks_in (mark_count t) start.args.marks.now)) loop.loop-p.p (book_of loop.loop-p.plan loop.loop-p.index loop.loop-p.count)
+            loop.loop-p.invariant.0,
+      ) }
+
+pub loop-p-preserved : goal.loop-p-preserved
+loop-p-preserved c =
+    let is-point : c.loop-p.p < (sizes_of c.args.t.now).points =
+        rw c.number_at-points.ensures.value at c.loop-p-test.true in
+    let turn = c in
+    let loop = turn in
+    let start = loop in
+    let t = start.args.t.now in
+    let marks = marks_in (mark_count t) start.args.marks.now in
+    let p = loop.loop-p.p in
+    let passes = start.requires.passes in (
+      rw c.enter-count.ensures
+          (made_more t (held_in t marks) p (book_of loop.loop-p.plan loop.loop-p.index loop.loop-p.count) loop.loop-p.invariant.0
+          (omega (arith, is-point, passes.points.high)) is-point
+          (head-below t (held_in t marks) passes p is-point (held_below t marks p)) (heads-few t passes)),
+      omega (arith, turn.loop-p-test.true),
+    )
+
+pub returns : goal.returns
+returns c =
+    let loop = c in
+    let start = loop in
+    let t = start.args.t.now in
+    let marks = marks_in (mark_count t) start.args.marks.now in
+    let h = held_in t marks in
+    let passes = start.requires.passes in
+    let past : (p : ℕ) → (sizes_of t).points ≤ p → h p ≡ 0 = λ p l. held-past t marks p (marks-length (mark_count t) start.args.marks.now) l in
+    let b = book_of loop.loop-p.plan loop.loop-p.index loop.loop-p.count in
+    let all : loop.loop-p.p ≡ (sizes_of t).points = omega (arith, loop.loop-p.invariant.1, c.loop-p-test.false, loop.number_at-points.ensures.value) in
+    let made = loop.loop-p.invariant.0 in (
+      made_held t h passes (held_below t marks) past loop.loop-p.p b made all,
+      (
+        made-planned t h passes (held_below t marks) past loop.loop-p.p b made all,
+        made-indexed t h passes (held_below t marks) past loop.loop-p.p b made all,
+      ),
+    )
+
+pub overflow_add-p : goal.overflow_add-p
+overflow_add-p c =
+    omega arith
+
+pub loop-p-smaller : goal.loop-p-smaller
+loop-p-smaller c =
+    omega arith

@@ -1,0 +1,33 @@
+-- `iterator::write::collect` meets its contract: the heads passed whose entry is there stand at the front. Assumes nothing.
+use Prim.Native.Nat.{◌-◌}
+use native.Mathlib.Omega.{arith}
+use Rattle.proposer.specs.Fold.{those}
+use Rattle.iterator.proofs.PutLaws.{begin, turn-room, turn, end, kept}
+use Rattle.iterator.proofs.write.collect.Goals as goal
+
+pub loop-c-init : goal.loop-c-init
+unfolding those
+loop-c-init c = begin (omega (arith, c.requires.heads_len))
+
+pub note-count-requires : goal.note-count-requires
+note-count-requires c =
+    let below = c.loop-c-test.true in
+    let loop = c in
+    let pre = loop.requires in
+    let p = loop.loop-c.invariant in
+    record { c_bound = (omega (arith, pre.0), pre.0.1 loop.loop-c.c below); c_bound_2 = omega (arith, turn-room p below, kept p, pre.1) }
+
+pub loop-c-preserved : goal.loop-c-preserved
+loop-c-preserved c = let inside = c in turn inside.loop-c.invariant inside.loop-c-test.true c.note-count.ensures
+
+pub returns : goal.returns
+unfolding those
+returns c = end c.loop-c.invariant c.loop-c-test.false
+
+pub overflow_add-c : goal.overflow_add-c
+overflow_add-c c =
+    omega arith
+
+pub loop-c-smaller : goal.loop-c-smaller
+loop-c-smaller c =
+    omega arith

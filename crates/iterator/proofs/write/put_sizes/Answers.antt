@@ -1,0 +1,38 @@
+-- `iterator::write::put_sizes` meets its contract: the sizes are small, so their words are themselves. Assumes nothing.
+use mathlib.Core.Path.{refl}
+use native.Mathlib.Omega.{arith}
+use lib.ListN.{length-set}
+use mir.Syntax.{w32}
+use mir.ValLaws.{to_z_pos}
+use Rattle.table.specs.Layout.{sizes_of}
+use Rattle.iterator.proofs.write.put_sizes.Goals as goal
+
+pub returns : goal.returns
+returns c =
+    let points = c.number_at.ensures.value in
+    let variables = c.number_at-2.ensures.value in
+    let mutexes = c.number_at-3.ensures.value in
+    let start = c in
+    let pre = start.requires.passes in
+    let sizes = sizes_of start.args.t.now in
+    record {
+      is =
+          rw (
+            points,
+            variables,
+            mutexes,
+            to_z_pos w32 sizes.points (omega (arith, pre.0.points.high)),
+            to_z_pos w32 sizes.variables (omega (arith, pre.0.variables.high)),
+            to_z_pos w32 sizes.mutexes (omega (arith, pre.0.mutexes.high)),
+            to_z_pos w32 start.args.count (omega (arith, pre.1)),
+          ) refl;
+      next-is = refl;
+    }
+
+pub bounds-out-1 : goal.bounds-out-1
+bounds-out-1 c =
+    simp length-set (omega arith)
+
+pub bounds-out-2 : goal.bounds-out-2
+bounds-out-2 c =
+    simp length-set (omega arith)

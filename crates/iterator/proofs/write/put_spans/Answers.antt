@@ -1,0 +1,66 @@
+-- `iterator::write::put_spans` meets its contract: a word a turn. Assumes nothing.
+use Prim.Native.Nat.{◌+◌, ◌-◌, ◌≤◌}
+use mathlib.Core.Path.{◌≡◌, ◌∙◌}
+use native.Mathlib.Omega.{arith}
+use lib.ListN.{length}
+use Rattle.words.proofs.Signed.{read_back}
+use Rattle.iterator.proofs.PutLaws.{begin, turn-room, turn, end, kept, puts_one}
+use Rattle.iterator.proofs.write.put_spans.Goals as goal
+
+pub span_end-requires : goal.span_end-requires
+span_end-requires c =
+    let below = c.loop-i-test.true in
+    let i = c.loop-i.i in
+    let pre = c.requires.points_bound in
+    (pre.0, pre.1.below i below, pre.1.slot i below)
+
+pub loop-i-preserved : goal.loop-i-preserved
+loop-i-preserved c =
+    let inside = c in
+    turn inside.loop-i.invariant inside.loop-i-test.true (rw (read_back c.span_end.type_inv ∙ c.span_end.ensures) (puts_one _ _ _))
+
+pub loop-i-init : goal.loop-i-init
+loop-i-init c =
+    begin c.requires.count_in_bounds
+
+pub offset_bounds-heads-i : goal.offset_bounds-heads-i
+offset_bounds-heads-i c =
+    omega (arith, c.requires.points_bound.1.few)
+
+pub bounds-heads-i : goal.bounds-heads-i
+bounds-heads-i c =
+    omega (arith, c.requires.points_bound.1.few)
+
+pub offset_bounds-out-next : goal.offset_bounds-out-next
+offset_bounds-out-next c =
+    let room : let loop = c in (loop.loop-i.next + 1 ≤ length loop.loop-i.out) × (length loop.loop-i.out ≡ length loop.args.out.now) =
+        let p = c.loop-i.invariant in (turn-room p c.loop-i-test.true, kept p) in
+    omega (arith, room)
+
+pub bounds-out-next : goal.bounds-out-next
+bounds-out-next c =
+    let room : let loop = c in (loop.loop-i.next + 1 ≤ length loop.loop-i.out) × (length loop.loop-i.out ≡ length loop.args.out.now) =
+        let p = c.loop-i.invariant in (turn-room p c.loop-i-test.true, kept p) in
+    omega (arith, room)
+
+pub overflow_add-next : goal.overflow_add-next
+overflow_add-next c =
+    let room : let loop = c in (loop.loop-i.next + 1 ≤ length loop.loop-i.out) × (length loop.loop-i.out ≡ length loop.args.out.now) =
+        let p = c.loop-i.invariant in (turn-room p c.loop-i-test.true, kept p) in
+    omega (arith, room)
+
+pub overflow_add-i : goal.overflow_add-i
+overflow_add-i c =
+    omega arith
+
+pub loop-i-smaller : goal.loop-i-smaller
+loop-i-smaller c =
+    omega arith
+
+pub shape_of-out : goal.shape_of-out
+shape_of-out c =
+    kept c.loop-i.invariant
+
+pub returns : goal.returns
+returns c =
+    end c.loop-i.invariant c.loop-i-test.false

@@ -1,0 +1,20 @@
+-- `rangecheck_c::rangecheck_check` meets its contract: each case of the verdict is handed on with its numbers. Assumes nothing.
+use mathlib.Core.Path.{sym, ap, ◌∙◌}
+use Rattle.words.specs.Stages.{numbers_by}
+use Rattle.checker.specs.Check.{verdict_numbers}
+use Rattle.rangecheck_c.specs.Answer.{answer_of}
+use Rattle.rangecheck_c.proofs.rangecheck_check.Goals as goal
+
+pub returns-in-Accepted : goal.returns-in-Accepted
+unfolding verdict_numbers numbers_by
+returns-in-Accepted c =
+    let told = c in
+    let said = told.check.ensures.result_value in
+    record { value = c.accepted.ensures ∙ ap answer_of (sym (ap verdict_numbers told.count-1.given.1) ∙ said.0); alarms_after = said.1 }
+
+pub returns-in-Refused : goal.returns-in-Refused
+unfolding verdict_numbers numbers_by
+returns-in-Refused c =
+    let told = c in
+    let said = told.check.ensures.result_value in
+    record { value = c.refused.ensures ∙ ap answer_of (sym (ap verdict_numbers told.rule-1.given.1) ∙ said.0); alarms_after = said.1 }

@@ -1,0 +1,20 @@
+-- `rules::order::order_ok` meets its contract: the first entry passes, and each other is looked at with the one before. Assumes nothing.
+use Rattle.rules.proofs.RangeLaws.{order_is}
+use Rattle.rules.proofs.order.order_ok.Goals as goal
+
+pub returns : goal.returns
+returns c =
+    let heads = c in
+    let entry = heads in
+    let a = entry.args in
+    rw (
+      order_is a.t.now a.w.now a.i entry.if-i-eq0.false,
+      c.before-2.ensures,
+      heads.head-3.ensures.value,
+      heads.head-2.ensures.value,
+      heads.head.ensures.value,
+    )
+
+pub returns-then-i-eq0 : goal.returns-then-i-eq0
+returns-then-i-eq0 c =
+    rw c.if-i-eq0.true

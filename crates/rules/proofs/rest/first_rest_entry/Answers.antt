@@ -1,0 +1,60 @@
+-- `rules::rest::first_rest_entry` meets its contract: each place before the loop's passes refusal 16, and the loop is left at the first that does
+-- not, or past the last. Assumes nothing.
+use Prim.Native.Nat.{◌-◌, ◌≤◌}
+use mathlib.Core.Path.{◌≡◌}
+use native.Mathlib.Omega.{arith}
+use Rattle.words.proofs.Bools.{fails-not, holds_not}
+use Rattle.table.specs.Layout.{sizes_of}
+use Rattle.rules.specs.Rules.{rule16}
+use Rattle.rules.specs.Ready.{Parts}
+use Rattle.rules.proofs.PlaceLaws.{seek, seeks, sought, unfound}
+use Rattle.rules.proofs.RestLaws.{rest-at-entry}
+use Rattle.rules.proofs.rest.first_rest_entry.Goals as goal
+
+pub rest_entry-requires : goal.rest_entry-requires
+rest_entry-requires c =
+    let at-hand : let lows = c in let to = lows in let from = to in let a = c.args in Parts a.t.now a.w.now from.heads-all.result.now from.entry_lows-from.result.now to.entry_highs-to.result.now lows.lows-all_lows.result.now c.highs-all_highs.result.now =
+        let lows = c in
+        let to = lows in
+        let from = to in
+        record {
+          apart = record { heads = from.heads-all.ensures; lows = from.entry_lows-from.ensures; highs = to.entry_highs-to.ensures };
+          rows = record { ready = c.requires.ready; lows = lows.lows-all_lows.ensures; highs = c.highs-all_highs.ensures };
+        } in
+    let past_points : let loop = c in (sizes_of loop.args.t.now).points ≤ loop.loop-place.place =
+        let loop = c in omega (arith, loop.pre.1.0, loop.loop-place.invariant.past) in
+    let points = c in
+    let pre = points.pre in
+    record { parts = at-hand; i_bound = omega (arith, points.number_at-points.ensures.value, past_points, c.loop-place-test.true, pre.1.2) }
+
+pub returns-then-not-rest_entry : goal.returns-then-not-rest_entry
+returns-then-not-rest_entry c =
+    let past_points : let loop = c in (sizes_of loop.args.t.now).points ≤ loop.loop-place.place =
+        let loop = c in omega (arith, loop.pre.1.0, loop.loop-place.invariant.past) in
+    let tested : let loop = c in let a = loop.args in c.rest_entry.result ≡ rule16 a.t.now a.w.now loop.loop-place.place =
+        let points = c in rest-at-entry _ _ _ past_points (rw points.number_at-points.ensures.value at c.rest_entry.ensures) in
+    let turn = c in
+    sought turn.loop-place.invariant turn.loop-place-test.true (fails-not tested c.if-not-rest_entry.true)
+
+pub loop-place-preserved : goal.loop-place-preserved
+loop-place-preserved c =
+    let past_points : let loop = c in (sizes_of loop.args.t.now).points ≤ loop.loop-place.place =
+        let loop = c in omega (arith, loop.pre.1.0, loop.loop-place.invariant.past) in
+    let tested : let loop = c in let a = loop.args in c.rest_entry.result ≡ rule16 a.t.now a.w.now loop.loop-place.place =
+        let points = c in rest-at-entry _ _ _ past_points (rw points.number_at-points.ensures.value at c.rest_entry.ensures) in
+    let turn = c in
+    seeks turn.loop-place.invariant turn.loop-place-test.true (holds_not tested c.if-not-rest_entry.false)
+
+pub loop-place-init : goal.loop-place-init
+loop-place-init c =
+    seek c.pre.1.1
+
+pub overflow_sub-place : goal.overflow_sub-place
+overflow_sub-place c =
+    let past_points : let loop = c in (sizes_of loop.args.t.now).points ≤ loop.loop-place.place =
+        let loop = c in omega (arith, loop.pre.1.0, loop.loop-place.invariant.past) in
+    omega (arith, c.number_at-points.ensures.value, past_points)
+
+pub returns : goal.returns
+returns c =
+    unfound c.loop-place.invariant c.loop-place-test.false

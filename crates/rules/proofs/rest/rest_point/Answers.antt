@@ -1,0 +1,56 @@
+-- `rules::rest::rest_point` meets its contract: a point that isn't reached passes, and so does any but an unlock. Assumes nothing.
+use mathlib.Core.Path.{◌≡◌, refl, sym, ◌∙◌}
+use mathlib.Core.Bool.{Bool}
+use Rattle.table.specs.Layout.{points_of}
+use Rattle.table.specs.Decode.{point_of}
+use Rattle.table.specs.declared.Point.{Point}
+use Rattle.table.specs.declared.Point.TheVariants.{End, Assign, Test, Lock}
+use Rattle.words.proofs.Bools.{fails-not, holds_not}
+use Rattle.rules.specs.Proposal.{held_of, row_at}
+use Rattle.rules.specs.Outcomes.{outcomes_by}
+use Rattle.rules.specs.Rules.{rests, rest_point}
+use Rattle.rules.proofs.RestLaws.{unlock-names, not-reached, reached}
+use Rattle.rules.proofs.rest.rest_point.Goals as goal
+
+at : (c : tie.After-point-at) {b : Bool} (x : Point) → let start = c.before.before.before.before.args in
+    c.point_at.result ≡ x
+    → b ≡ rests start.t.now start.w.now x (outcomes_by start.t.now start.w.now x (held_of start.w.now start.p) (row_at start.t.now start.w.now start.p))
+    → b ≡ rest_point start.t.now start.w.now start.p
+at c x is q =
+    let reach = c.before.before in
+    let is-reached = holds_not (rw reach.before.held.ensures.0 at reach.is-reached.ensures) c.before.if1.false in
+    reached _ _ _ x is-reached (sym (read c) ∙ is) q
+
+pub unlock_rests-requires : goal.unlock_rests-requires
+unlock_rests-requires c =
+    let read : let start = c.args in c.point_at-x.result ≡ point_of (points_of start.t.now) start.p =
+        rw c.requires.points_value at c.point_at-x.ensures in
+    let point = c in
+    let pre = point.requires in
+    let below = pre.1.1 in
+    record { rows = pre.1.0; m_bound = (unlock-names _ _ pre.1.0.ready.passes below (sym read ∙ c.x-1.given.1), below) }
+
+pub returns-then-not-is_reached : goal.returns-then-not-is_reached
+returns-then-not-is_reached c =
+    let reach = c in
+    not-reached _ _ _ (fails-not (rw reach.held.ensures.value at reach.is_reached.ensures) c.if-not-is_reached.true)
+
+pub returns-in-End : goal.returns-in-End
+returns-in-End c =
+    at c End c.enum_told-1.given.1 refl
+
+pub returns-in-Assign : goal.returns-in-Assign
+returns-in-Assign c =
+    at c (Assign _ _ _) c.enum_told-in-Assign-1.given.1 refl
+
+pub returns-in-Test : goal.returns-in-Test
+returns-in-Test c =
+    at c (Test _ _ _) c.enum_told-in-Test-1.given.1 refl
+
+pub returns-in-Lock : goal.returns-in-Lock
+returns-in-Lock c =
+    at c (Lock _ _) c.enum_told-in-Lock-1.given.1 refl
+
+pub returns-in-Unlock : goal.returns-in-Unlock
+returns-in-Unlock c =
+    at c _ c.x-1.given.1 c.unlock_rests.ensures

@@ -1,0 +1,12 @@
+-- `rules::rows::meets` meets its contract: the loop is left at the first interval that is empty, or past the last. Assumes nothing.
+use Prim.Native.Nat.{◌-◌}
+use Rattle.words.proofs.FirstLaws.{Checked}
+use Rattle.analysis.specs.Rows.{row_of}
+use Rattle.rules.proofs.RowLaws.{Meets}
+use Rattle.rules.proofs.rows.meets.Given as goal
+
+abbrev pub invariant-loop-v : goal.invariant-loop-v
+invariant-loop-v l = Checked (Meets (row_of l.a_lows l.a_highs) (row_of l.b_lows l.b_highs)) l.variables l.v
+
+abbrev pub decreases-loop-v : goal.decreases-loop-v
+decreases-loop-v l = l.variables - l.v

@@ -1,0 +1,76 @@
+-- `rules::rows::written_within` meets its contract: the loop is left at the first interval that isn't within the other row's, or past the last.
+-- The ends to be written are handed on by their bits, and read back after the loop. Assumes nothing.
+use Prim.Native.Nat.{◌-◌}
+use mathlib.Core.Path.{◌≡◌, sym, ◌∙◌}
+use mir.Syntax.{w32}
+use mir.Val.{to_z, of_z}
+use mir.Facts.{to_z-of_z}
+use Rattle.words.proofs.Bools.{fails-not, holds_not}
+use Rattle.words.proofs.FirstLaws.{check, checks, checked}
+use Rattle.words.proofs.Signed.{read_back}
+use Rattle.analysis.specs.Rows.{Row, row_of}
+use Rattle.rules.specs.Outcomes.{row_within_of}
+use Rattle.rules.specs.Ready.{Ordered}
+use Rattle.rules.proofs.RowLaws.{Lies, lies-is, fails-in, written-ordered, written_row}
+use Rattle.rules.proofs.rows.written_within.Goals as goal
+
+pub returns-then-not-is_inside : goal.returns-then-not-is_inside
+unfolding row_within_of
+returns-then-not-is_inside c =
+    let written : Row =
+        let a = c.args in
+        written_row a.a-lows.now a.a-highs.now a.at (to_z w32 (of_z w32 a.low)) (to_z w32 (of_z w32 a.high)) a.last
+        (to_z w32 (of_z w32 a.last-low)) (to_z w32 (of_z w32 a.last-high)) in
+    let in_order : Ordered written.lows written.highs c.args.variables =
+        let fits = c.ranges in
+        let pre = c.requires in
+        rw (to_z-of_z fits.low, to_z-of_z fits.high, to_z-of_z fits.last-low, to_z-of_z fits.last-high)
+        (written-ordered _ _ _ (written-ordered _ _ _ pre.0 pre.1.0.0) pre.1.0.1) in
+    let tested : let loop = c in let a = loop.before.args in c.is_inside.result ≡ Lies (written loop.before) (row_of a.b-lows.now a.b-highs.now) loop.loop.v =
+        let b-high = c in
+        let b-low = b-high in
+        let high = b-low in
+        let low = high in
+        let turn = c in
+        let start = turn in
+        lies-is in_order start.pre.1.1 turn.loop-v-test.taken (read_back low.written_word-a.type_inv ∙ low.written_word-a.ensures)
+        (read_back high.written_word-b.type_inv ∙ high.written_word-b.ensures) (read_back b-low.word_at.type_inv ∙ b-low.word_at.ensures)
+        (read_back b-high.word_at-in-loop-v.type_inv ∙ b-high.word_at-in-loop-v.ensures) c.is_inside.ensures in
+    let turn = c in
+    let fits = turn.fits in
+    let fails = fails-in turn.loop-v.inv turn.loop-v-test.taken (fails-not tested c.if-not-is_inside.true) in
+    rw (to_z-of_z fits.low, to_z-of_z fits.high, to_z-of_z fits.last-low, to_z-of_z fits.last-high) at fails
+
+pub loop-v-preserved : goal.loop-v-preserved
+loop-v-preserved c =
+    let written : Row =
+        let a = c.args in
+        written_row a.a-lows.now a.a-highs.now a.at (to_z w32 (of_z w32 a.low)) (to_z w32 (of_z w32 a.high)) a.last
+        (to_z w32 (of_z w32 a.last-low)) (to_z w32 (of_z w32 a.last-high)) in
+    let in_order : Ordered written.lows written.highs c.args.variables =
+        let fits = c.ranges in
+        let pre = c.requires in
+        rw (to_z-of_z fits.low, to_z-of_z fits.high, to_z-of_z fits.last-low, to_z-of_z fits.last-high)
+        (written-ordered _ _ _ (written-ordered _ _ _ pre.0 pre.1.0.0) pre.1.0.1) in
+    let tested : let loop = c in let a = loop.before.args in c.is_inside.result ≡ Lies (written loop.before) (row_of a.b-lows.now a.b-highs.now) loop.loop.v =
+        let b-high = c in
+        let b-low = b-high in
+        let high = b-low in
+        let low = high in
+        let turn = c in
+        let start = turn in
+        lies-is in_order start.pre.1.1 turn.loop-v-test.taken (read_back low.written_word-a.type_inv ∙ low.written_word-a.ensures)
+        (read_back high.written_word-b.type_inv ∙ high.written_word-b.ensures) (read_back b-low.word_at.type_inv ∙ b-low.word_at.ensures)
+        (read_back b-high.word_at-in-loop-v.type_inv ∙ b-high.word_at-in-loop-v.ensures) c.is_inside.ensures in
+    let turn = c in
+    checks turn.loop-v.inv turn.loop-v-test.taken (holds_not tested c.if-not-is_inside.false)
+
+pub returns : goal.returns
+unfolding row_within_of
+returns c =
+    let fits = c.ranges in
+    rw (to_z-of_z fits.low, to_z-of_z fits.high, to_z-of_z fits.last-low, to_z-of_z fits.last-high) at (sym (checked c.loop-v.invariant c.loop-v-test.false))
+
+pub loop-v-init : goal.loop-v-init
+loop-v-init c =
+    check

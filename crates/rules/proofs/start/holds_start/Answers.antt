@@ -1,0 +1,70 @@
+-- `rules::start::holds_start` meets its contract: each starting value before v lies within the row, and the loop is left at the first that does not.
+-- Assumes nothing.
+use Prim.Native.Nat.{◌-◌, ◌<◌}
+use mathlib.Core.Path.{◌≡◌, sym, ◌∙◌}
+use native.Mathlib.Omega.{arith}
+use Rattle.words.proofs.Bools.{fails-not, holds_not}
+use Rattle.words.proofs.FirstLaws.{check, checks, checked, fails-at}
+use Rattle.words.proofs.Signed.{read_back}
+use Rattle.table.specs.Layout.{sizes_of}
+use Rattle.analysis.specs.Rows.{row_of}
+use Rattle.rules.specs.Rules.{holds_start}
+use Rattle.rules.proofs.StartLaws.{value_within, value-within, value_there}
+use Rattle.rules.proofs.start.holds_start.Goals as goal
+
+pub loop-v-preserved : goal.loop-v-preserved
+loop-v-preserved c =
+    let tested : let loop = c in let start = loop.before in let args = start.before.before.args in c.is_inside.result ≡ value_within start.before.starts.result.now (row_of args.lows.now args.highs.now) loop.loop.v =
+        let high = c in
+        let low = high in
+        let value = low in
+        let start = c in
+        let args = start.before.before.args in
+        value-within start.before.starts.result.now (row_of args.lows.now args.highs.now) _ (read_back value.word_at-z.type_inv ∙ value.word_at-z.ensures)
+        (read_back low.word_at.type_inv ∙ low.word_at.ensures) (read_back high.word_at-in-loop-v.type_inv ∙ high.word_at-in-loop-v.ensures) c.is_inside.ensures in
+    let turn = c in
+    checks turn.loop-v.inv turn.loop-v-test.taken (holds_not tested c.if-not-is_inside.false)
+
+pub returns-then-not-is_inside : goal.returns-then-not-is_inside
+unfolding holds_start
+returns-then-not-is_inside c =
+    let tested : let loop = c in let start = loop.before in let args = start.before.before.args in c.is_inside.result ≡ value_within start.before.starts.result.now (row_of args.lows.now args.highs.now) loop.loop.v =
+        let high = c in
+        let low = high in
+        let value = low in
+        let start = c in
+        let args = start.before.before.args in
+        value-within start.before.starts.result.now (row_of args.lows.now args.highs.now) _ (read_back value.word_at-z.type_inv ∙ value.word_at-z.ensures)
+        (read_back low.word_at.type_inv ∙ low.word_at.ensures) (read_back high.word_at-in-loop-v.type_inv ∙ high.word_at-in-loop-v.ensures) c.is_inside.ensures in
+    let turn = c in
+    let start = turn in
+    rw (sym start.starts-values.ensures, sym start.number_at-variables.ensures.value)
+    (sym (fails-at _ _ _ turn.loop-v-test.taken (fails-not tested c.if-not-is_inside.true)))
+
+pub returns : goal.returns
+unfolding holds_start
+returns c =
+    let start = c in
+    rw (sym start.starts-values.ensures, sym start.number_at-variables.ensures.value) (sym (checked c.loop-v.invariant c.loop-v-test.false))
+
+pub loop-v-init : goal.loop-v-init
+loop-v-init c =
+    check
+
+pub word_at-z-requires : goal.word_at-z-requires
+word_at-z-requires c =
+    let is-variable : c.loop-v.v < (sizes_of c.args.t.now).variables =
+        rw c.number_at-variables.ensures.value at c.loop-v-test.true in
+    let starts = c in value_there starts.requires.passes starts.starts-values.ensures is-variable
+
+pub word_at-requires : goal.word_at-requires
+word_at-requires c =
+    let is-variable : c.loop-v.v < (sizes_of c.args.t.now).variables =
+        rw c.number_at-variables.ensures.value at c.loop-v-test.true in
+    let turn = c in omega (arith, is-variable, turn.requires.t_in_bounds.0)
+
+pub word_at-requires-in-loop-v : goal.word_at-requires-in-loop-v
+word_at-requires-in-loop-v c =
+    let is-variable : c.loop-v.v < (sizes_of c.args.t.now).variables =
+        rw c.number_at-variables.ensures.value at c.loop-v-test.true in
+    let turn = c in omega (arith, is-variable, turn.requires.t_in_bounds.1)

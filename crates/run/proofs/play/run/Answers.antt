@@ -1,0 +1,22 @@
+-- `run::play::run` meets its contract: what `validate` says decides the definition, and its numbers are handed on. Assumes nothing.
+use mathlib.Core.Path.{sym, ◌∙◌}
+use Rattle.table.proofs.PassLaws.{passes}
+use Rattle.run.specs.Run.{played_by, run_of}
+use Rattle.run.proofs.play.run.Goals as goal
+
+pub play-s-requires : goal.play-s-requires
+play-s-requires c = passes _ (sym c.validate-stage.ensures.value ∙ c.enum_told-1.given.1)
+
+pub returns-in-Passed : goal.returns-in-Passed
+unfolding run_of played_by
+returns-in-Passed c =
+    let told = c in
+    let said = told.validate-stage.ensures in
+    record { value = rw (← said.0, told.enum_told-1.given.1, c.play-s.ensures); stage_value = said.1 }
+
+pub returns-in-Broken : goal.returns-in-Broken
+unfolding run_of played_by
+returns-in-Broken c =
+    let told = c in
+    let said = told.validate-stage.ensures in
+    record { value = rw (← said.0, told.enum_told-in-Broken-1.given.1, c.blank-s.ensures); stage_value = said.1 }

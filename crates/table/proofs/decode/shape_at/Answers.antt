@@ -1,0 +1,10 @@
+-- `table::decode::shape_at` meets its contract: the kind and the fields that were read decide the shape. Assumes nothing.
+use Rattle.words.proofs.Signed.{read_back}
+use Rattle.table.proofs.DecodeLaws.{shape-found}
+use Rattle.table.proofs.decode.shape_at.Goals as goal
+
+pub returns : goal.returns
+returns c =
+    let told = c in
+    let fits = told.struct_told-1.given in
+    shape-found _ _ _ _ _ told.Node-at.ensures.1 (read_back fits.1.0.1) (read_back fits.1.1.0.1) c.shape_by.ensures

@@ -1,0 +1,8 @@
+-- `table::formed::is_target` meets its contract: the number is that of the word. Assumes nothing.
+use Rattle.table.proofs.DecodeLaws.{number-back}
+use Rattle.table.proofs.formed.is_target.Goals as goal
+
+pub returns : goal.returns
+returns c =
+    let read = c in
+    rw (number-back read.args.w read.ranges.w.sfits read.number-q.ensures.value)

@@ -1,0 +1,158 @@
+-- `table::formed::node_ok` meets its contract: the arm of a kind tests the fields that the kind calls for, one after another. Assumes nothing.
+use Prim.Native.Nat.{ℕ, ◌≤◌}
+use mathlib.Core.Path.{◌≡◌, refl, sym, ap₂, ◌∙◌}
+use mathlib.Core.Logic.{⊎_elim}
+use native.Mathlib.Numerals.{lt_of_le_of_ne}
+use native.Mathlib.Omega.{arith}
+use lib.Dec.{ltb, lit<}
+use lib.IntN.{ℤ}
+use lib.Signed.{le_z}
+use mir.Syntax.{w32}
+use mir.Val.{to_z, of_z}
+use Rattle.words.specs.Words.{number_of}
+use Rattle.table.specs.Layout.{four_of}
+use Rattle.table.specs.Formed.{node_fields_of, fits_of}
+use Rattle.table.specs.Uses.{ref_of}
+use Rattle.table.proofs.LayoutLaws.{back, read-four}
+use Rattle.table.proofs.FormedLaws.{number-from, number-within, number-negative, bits_are, binary-fields, compare-fields, both-fields, between-fields, past-fields}
+use Rattle.table.proofs.WalkLaws.{tested, in-turn, failed, node-counted}
+use Rattle.table.proofs.formed.node_ok.Goals as goal
+
+-- the fields of a kind that is a key of the match
+keyed : (a : ℤ) {b m : ℕ} → b ≡ m → node_fields_of (number_of (to_z w32 b)) a ≡ node_fields_of (number_of (to_z w32 m)) a
+keyed a e = rw e
+
+-- a kind that is none of the first keys
+from-four : (b : ℕ) → (((Unit {0} × (b ≡ 0 → ⊥)) × (b ≡ 1 → ⊥)) × (b ≡ 2 → ⊥)) × (b ≡ 3 → ⊥) → 4 ≤ number_of (to_z w32 b)
+from-four b h =
+    let k = number_of (to_z w32 b) in
+    let zero : k ≡ 0 → ⊥ = λ e. h.0.0.0.1 (bits_are b 0 (lit< tt) e) in
+    let one : k ≡ 1 → ⊥ = λ e. h.0.0.1 (bits_are b 1 (lit< tt) e) in
+    let two : k ≡ 2 → ⊥ = λ e. h.0.1 (bits_are b 2 (lit< tt) e) in
+    let three : k ≡ 3 → ⊥ = λ e. h.1 (bits_are b 3 (lit< tt) e) in
+    omega arith
+
+pub returns-in-0 : goal.returns-in-0
+unfolding node_fields_of number_of fits_of ref_of
+returns-in-0 c =
+    let words : back c.four-x.result ≡ four_of c.args.nodes.now c.args.n =
+        let fits = c.struct_told-1.given in read-four fits.0.1 fits.1.0.1 fits.1.1.0.1 fits.1.1.1.0.1 ∙ c.four-x.ensures in
+    λ t e. let arm = c in
+    node-counted t _ _ words (keyed _ arm.in-4-to-7-1.keys1) (in-turn (tested c.is_unused.ensures) (tested c.is_unused-in-0.ensures))
+
+pub returns-in-1 : goal.returns-in-1
+unfolding node_fields_of number_of fits_of ref_of
+returns-in-1 c =
+    let words : back c.four-x.result ≡ four_of c.args.nodes.now c.args.n =
+        let fits = c.struct_told-1.given in read-four fits.0.1 fits.1.0.1 fits.1.1.0.1 fits.1.1.1.0.1 ∙ c.four-x.ensures in
+    λ t e. let arm = c in
+    let x = back arm.four-x.result in
+    node-counted t _ _ words (keyed _ arm.in-4-to-7-1.keys2) (in-turn (tested {ok = le_z x.a x.b} refl) (tested c.is_unused-in-1.ensures))
+
+pub returns-in-2 : goal.returns-in-2
+unfolding node_fields_of number_of fits_of ref_of
+returns-in-2 c =
+    let words : back c.four-x.result ≡ four_of c.args.nodes.now c.args.n =
+        let fits = c.struct_told-1.given in read-four fits.0.1 fits.1.0.1 fits.1.1.0.1 fits.1.1.1.0.1 ∙ c.four-x.ensures in
+    λ t e. let second = c in
+    let first = second in
+    let arm = first in
+    node-counted t _ _ words (keyed _ arm.in-4-to-7-1.keys3)
+    (in-turn (tested (ap₂ ltb first.number.ensures.value e)) (in-turn (tested second.is_unused-in-2.ensures) (tested c.is_unused-in-2-2.ensures)))
+
+pub returns-in-3 : goal.returns-in-3
+unfolding node_fields_of number_of fits_of ref_of
+returns-in-3 c =
+    let words : back c.four-x.result ≡ four_of c.args.nodes.now c.args.n =
+        let fits = c.struct_told-1.given in read-four fits.0.1 fits.1.0.1 fits.1.1.0.1 fits.1.1.1.0.1 ∙ c.four-x.ensures in
+    λ t e. let second = c in
+    let first = second in
+    let arm = first in
+    node-counted t _ _ words (keyed _ arm.in-4-to-7-1.keys4)
+    (in-turn first.uses_arithmetic.ensures (in-turn (tested second.is_unused-in-3.ensures) (tested c.is_unused-in-3-2.ensures)))
+
+pub returns-in-8 : goal.returns-in-8
+unfolding node_fields_of number_of fits_of ref_of
+returns-in-8 c =
+    let words : back c.four-x.result ≡ four_of c.args.nodes.now c.args.n =
+        let fits = c.struct_told-1.given in read-four fits.0.1 fits.1.0.1 fits.1.1.0.1 fits.1.1.1.0.1 ∙ c.four-x.ensures in
+    λ t e. let second = c in
+    let first = second in
+    let arm = first in
+    node-counted t _ _ words (keyed _ arm.in-4-to-7-1.keys6)
+    (in-turn first.uses_condition.ensures (in-turn second.uses_arithmetic-in-8.ensures c.uses_arithmetic-in-8-2.ensures))
+
+pub returns-in-22 : goal.returns-in-22
+unfolding node_fields_of number_of fits_of ref_of
+returns-in-22 c =
+    let words : back c.four-x.result ≡ four_of c.args.nodes.now c.args.n =
+        let fits = c.struct_told-1.given in read-four fits.0.1 fits.1.0.1 fits.1.1.0.1 fits.1.1.1.0.1 ∙ c.four-x.ensures in
+    λ t e. let second = c in
+    let first = second in
+    let arm = first in
+    node-counted t _ _ words (keyed _ arm.in-4-to-7-1.keys7)
+    (in-turn first.uses_condition-in-22.ensures (in-turn (tested second.is_unused-in-22.ensures) (tested c.is_unused-in-22-2.ensures)))
+
+pub returns-in-20-to-21 : goal.returns-in-20-to-21
+unfolding node_fields_of number_of fits_of ref_of
+returns-in-20-to-21 c =
+    let words : back c.four-x.result ≡ four_of c.args.nodes.now c.args.n =
+        let fits = c.struct_told-1.given in read-four fits.0.1 fits.1.0.1 fits.1.1.0.1 fits.1.1.1.0.1 ∙ c.four-x.ensures in
+    λ t e. let second = c in
+    let first = second in
+    let arm = first in
+    let from-both = arm.if-kind-lt20.false in
+    let told = arm in
+    let z = to_z w32 (of_z w32 told.four-x.result.kind) in
+    node-counted t _ _ words
+    (both-fields _ (number-from z 20 from-both) (number-within z 20 22 from-both arm.if-kind-lt22.true))
+    (in-turn first.uses_condition-in-20-to-21.ensures (in-turn second.uses_condition-in-20-to-21-2.ensures (tested c.is_unused-in-20-to-21.ensures)))
+
+-- kinds that there are not: negative ones, those from 10 to 15, and those past 22
+pub returns-in_default : goal.returns-in_default
+unfolding fits_of
+returns-in_default c =
+    let words : back c.four-x.result ≡ four_of c.args.nodes.now c.args.n =
+        let fits = c.struct_told-1.given in read-four fits.0.1 fits.1.0.1 fits.1.1.0.1 fits.1.1.1.0.1 ∙ c.four-x.ensures in
+    λ t e. node-counted t _ _ words (past-fields _ (number-negative _ c.if-kind-lt0.true (lit< tt))) failed
+
+pub returns-in_default-2 : goal.returns-in_default-2
+unfolding fits_of
+returns-in_default-2 c =
+    let words : back c.four-x.result ≡ four_of c.args.nodes.now c.args.n =
+        let fits = c.struct_told-1.given in read-four fits.0.1 fits.1.0.1 fits.1.1.0.1 fits.1.1.1.0.1 ∙ c.four-x.ensures in
+    λ t e. let from-choice = c.if-kind-lt8.false in
+    let rest = c in
+    let told = rest in
+    let z = to_z w32 (of_z w32 told.four-x.result.kind) in
+    let past-choice = lt_of_le_of_ne (number-from z 8 from-choice) (λ e. rest.in-4-to-7-1.rest.0.1 (bits_are _ 8 (lit< tt) (sym e))) in
+    let past-remainder = lt_of_le_of_ne past-choice (λ e. rest.in-4-to-7-1.rest.0.0.1 (bits_are _ 9 (lit< tt) (sym e))) in
+    node-counted t _ _ words (between-fields _ past-remainder (number-within z 8 16 from-choice c.if-kind-lt16.true)) failed
+
+pub returns-in_default-3 : goal.returns-in_default-3
+unfolding fits_of
+returns-in_default-3 c =
+    let words : back c.four-x.result ≡ four_of c.args.nodes.now c.args.n =
+        let fits = c.struct_told-1.given in read-four fits.0.1 fits.1.0.1 fits.1.1.0.1 fits.1.1.1.0.1 ∙ c.four-x.ensures in
+    λ t e. let rest = c in
+    let told = rest in
+    let z = to_z w32 (of_z w32 told.four-x.result.kind) in
+    node-counted t _ _ words
+    (past-fields _ (lt_of_le_of_ne (number-from z 22 c.if-kind-lt22.false) (λ e. rest.in-4-to-7-1.rest.1 (bits_are _ 22 (lit< tt) (sym e))))) failed
+
+pub returns-in-4-to-7 : goal.returns-in-4-to-7
+unfolding node_fields_of number_of fits_of ref_of
+returns-in-4-to-7 c =
+    let words : back c.four-x.result ≡ four_of c.args.nodes.now c.args.n =
+        let fits = c.struct_told-1.given in read-four fits.0.1 fits.1.0.1 fits.1.1.0.1 fits.1.1.1.0.1 ∙ c.four-x.ensures in
+    λ t e. let second = c in
+    let first = second in
+    let arm = first in
+    let told = arm in
+    let z = to_z w32 (of_z w32 told.four-x.result.kind) in
+    node-counted t _ _ words
+    (⊎_elim (λ w. keyed _ w.keys5)
+    (⊎_elim (λ w. binary-fields _ (from-four _ w.0.rest.0.0.0) (number-within z 0 8 w.1.left w.2.taken))
+    (λ w. compare-fields _ (number-from z 16 w.3.left) (number-within z 16 20 w.3.left w.4.taken)))
+    arm.in-4-to-7-1.branch)
+    (in-turn first.uses_arithmetic-in-4-to-7.ensures (in-turn second.uses_arithmetic-in-4-to-7-2.ensures (tested c.is_unused-in-4-to-7.ensures)))

@@ -1,0 +1,26 @@
+-- `table::layout::first_in` meets its contract: the sum is the first point of task k, and at most 4294967295 for each share before k. The loop
+-- is left at task u, or at the last share, past which nothing is added. Assumes nothing.
+use Prim.Native.Nat.{◌-◌}
+use mathlib.Core.Path.{◌≡◌, sym, ap, ◌∙◌}
+use native.Mathlib.Omega.{arith}
+use lib.ListN.{length}
+use Rattle.table.specs.Layout.{first_in}
+use Rattle.table.proofs.LayoutLaws.{first_more, first_past}
+use Rattle.table.proofs.layout.first_in.Goals as goal
+
+pub returns-then-u-k : goal.returns-then-u-k
+returns-then-u-k c =
+    let turn = c in
+    let at-u : turn.loop-k.k ≡ turn.args.u = omega arith in
+    turn.loop-k.invariant.2 ∙ ap (first_in turn.args.shares.now) at-u
+
+pub loop-k-preserved : goal.loop-k-preserved
+loop-k-preserved c =
+    let sum = c.loop-k.invariant.2 in
+    (omega arith, omega arith, rw (first_more, ← sum, ← c.number_at-first.ensures.value), omega arith)
+
+pub returns : goal.returns
+returns c =
+    let turn = c in
+    let at-end : turn.loop-k.k ≡ length turn.args.shares.now = omega arith in
+    turn.loop-k.invariant.2 ∙ ap (first_in turn.args.shares.now) at-end ∙ sym (first_past _ _ (omega arith))

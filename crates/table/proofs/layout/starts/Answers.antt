@@ -1,0 +1,6 @@
+-- `table::layout::starts` meets its contract: the part that was cut, at the sizes of the table. Assumes nothing.
+use Rattle.table.proofs.layout.starts.Goals as goal
+
+pub returns : goal.returns
+returns c =
+    cc

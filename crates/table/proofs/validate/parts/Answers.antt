@@ -1,0 +1,109 @@
+-- `table::validate::parts` meets its contract: each `return` is the rules that passed, and the one that refused. Assumes nothing.
+use mathlib.Core.Path.{◌≡◌, refl, sym, ap, ◌∙◌}
+use mathlib.Core.List.{List}
+use borrow.Author.Rules.{rules}
+use borrow.Author.Tests.{eq-eqb, ne_eqb}
+use lib.IntN.{ℤ}
+use Rattle.words.specs.declared.Found.TheVariants.{Nothing}
+use Rattle.words.specs.declared.Stage.{Stage}
+use Rattle.words.specs.declared.Stage.TheVariants.{Passed}
+use Rattle.words.specs.First.{first_bad}
+use Rattle.words.specs.Stages.{refuse}
+use Rattle.words.proofs.StageLaws.{pass, halt, pass-if, halt-if}
+use Rattle.table.specs.declared.Sizes.{Sizes}
+use Rattle.table.specs.Layout.{sizes_of, shares_of, first_of}
+use Rattle.table.specs.Uses.{rule6}
+use Rattle.table.specs.Validate.{share_ok_of, rule4, rule5, parts_stage}
+use Rattle.table.proofs.UseLaws.{uses-first}
+use Rattle.table.proofs.validate.parts.Goals as goal
+
+-- what is left of the stage from a rule on: the stage, where the rules before it were passed
+abbrev from6 : List ℤ → Stage
+from6 t = refuse 6 (first_bad (rule6 t) (sizes_of t).nodes) Passed
+
+abbrev from5 : List ℤ → Stage
+from5 t = refuse 5 (first_bad (rule5 t) (sizes_of t).points) (from6 t)
+
+abbrev from4 : List ℤ → Stage
+from4 t = refuse 4 (first_bad (rule4 t) (sizes_of t).nodes) (from5 t)
+
+passed3 : (c : tie.Else1) {v : Stage} → let t = table (to-sizes (to-shares c)) in v ≡ from4 t → v ≡ parts_stage t
+unfolding parts_stage
+passed3 c q = pass _ (shares-pass (to-shares c)) (pass-if _ _ (eq-eqb _ _ (shares_sum c)) q)
+
+passed4 : (c : tie.After-enum-told2) {v : Stage} → let t = table (to-sizes (to-shares (to-sum c))) in v ≡ from5 t → v ≡ parts_stage t
+passed4 c q = passed3 (to-sum c) (pass _ (sym c.before.before.first-node.ensures.is ∙ c.enum-told2.given.1) q)
+
+passed5 : (c : tie.After-enum-told3) {v : Stage} → let t = table (to-sizes (to-shares (to-sum (to-nodes c)))) in v ≡ from6 t → v ≡ parts_stage t
+passed5 c q = passed4 (to-nodes c) (pass _ (sym c.before.before.first-point.ensures.is ∙ c.enum-told3.given.1) q)
+
+pub returns-in-At : goal.returns-in-At
+unfolding parts_stage
+returns-in-At c =
+    let table : List ℤ =
+        c.args.t.now in
+    let shares-searched : let t = table in c.first_share.result ≡ first_bad (share_ok_of (shares_of t)) (sizes_of t).tasks =
+        rw (c.shares.ensures, c.sizes-s.ensures.value) at c.first_share.ensures in
+    halt _ (sym shares-searched ∙ c.u-1.given.1)
+
+pub returns-then-first_of-s : goal.returns-then-first_of-s
+unfolding parts_stage
+returns-then-first_of-s c =
+    let table : List ℤ =
+        c.args.t.now in
+    let shares-searched : let t = table in c.first_share.result ≡ first_bad (share_ok_of (shares_of t)) (sizes_of t).tasks =
+        rw (c.shares.ensures, c.sizes-s.ensures.value) at c.first_share.ensures in
+    let shares-pass : let t = table in first_bad (share_ok_of (shares_of t)) (sizes_of t).tasks ≡ Nothing =
+        sym shares-searched ∙ c.enum_told-1.given.1 in
+    let first = c in
+    let sizes = first.sizes-s.ensures.value in
+    pass _ shares-pass
+    (halt-if _ (ne_eqb _ _ (λ e. c.if-first_of-s.true (first.first_of.ensures ∙ rw sizes e))) (ap (λ (s : Sizes). s.tasks) sizes))
+
+pub returns-in-At-first_node : goal.returns-in-At-first_node
+returns-in-At-first_node c =
+    let nodes = c in
+    passed3 nodes (halt _ (sym nodes.first_node.ensures.is ∙ c.n-1.given.1))
+
+pub returns-in-At-first_point : goal.returns-in-At-first_point
+returns-in-At-first_point c =
+    let points = c in
+    passed4 points (halt _ (sym points.first_point.ensures.is ∙ c.p-1.given.1))
+
+pub returns-in-At-first_not_one : goal.returns-in-At-first_not_one
+returns-in-At-first_not_one c =
+    let table : List ℤ =
+        c.args.t.now in
+    let uses-searched : let t = table (to-sizes (to-shares (to-sum c))) in c.first_not_one.result ≡ first_bad (rule6 t) (sizes_of t).nodes =
+        let points = c in
+        let nodes = points in
+        let sizes = to-sizes nodes in
+        uses-first 1024 _ _ _ sizes.before.pre.few (ap (λ (s : Sizes). s.nodes) sizes.sizes.ensures.0)
+        (nodes.first_node.ensures.uses nodes.enum_told-in_default-first_node-1.given.1)
+        (points.first_point.ensures.uses points.enum_told-in_default-first_point-1.given.1)
+        c.first_not_one.ensures in
+    let uses = c in
+    passed5 uses (halt _ (sym uses-searched ∙ c.n-in-At-first_not_one-1.given.1))
+
+pub returns : goal.returns
+returns c =
+    let table : List ℤ =
+        c.args.t.now in
+    let uses-searched : let t = table (to-sizes (to-shares (to-sum c))) in c.first_not_one.result ≡ first_bad (rule6 t) (sizes_of t).nodes =
+        let points = c in
+        let nodes = points in
+        let sizes = to-sizes nodes in
+        uses-first 1024 _ _ _ sizes.before.pre.few (ap (λ (s : Sizes). s.nodes) sizes.sizes.ensures.0)
+        (nodes.first_node.ensures.uses nodes.enum_told-in_default-first_node-1.given.1)
+        (points.first_point.ensures.uses points.enum_told-in_default-first_point-1.given.1)
+        c.first_not_one.ensures in
+    let uses = c in
+    passed5 uses (pass _ (sym uses-searched ∙ c.enum_told-in_default-first_not_one-1.given.1) refl)
+
+pub first_point-requires : goal.first_point-requires
+first_point-requires c =
+    let table : List ℤ =
+        c.args.t.now in
+    let shares_sum : let t = table (to-sizes c) in first_of t (sizes_of t).tasks ≡ (sizes_of t).points =
+        rw (to-sizes c).sizes.ensures.0 at (sym c.first_of.ensures ∙ c.if-first_of-s.false) in
+    let sum = c in record { whole = (to-sizes sum).before.requires; t_value = shares_sum }
