@@ -9,12 +9,10 @@ pub returns-in-Accepted : goal.returns-in-Accepted
 unfolding verdict_numbers numbers_by
 returns-in-Accepted c =
     let told = c in
-    let said = told.check.ensures.result_value in
-    record { value = c.accepted.ensures ∙ ap answer_of (sym (ap verdict_numbers told.count-1.given.1) ∙ said.0); alarms_after = said.1 }
+    record { value = c.accepted.ensures ∙ ap answer_of (sym (ap verdict_numbers told.in-Accepted.is) ∙ told.check.ensures.result_value); alarms_after = told.check.ensures.alarms_after }
 
 pub returns-in-Refused : goal.returns-in-Refused
 unfolding verdict_numbers numbers_by
 returns-in-Refused c =
     let told = c in
-    let said = told.check.ensures.result_value in
-    record { value = c.refused.ensures ∙ ap answer_of (sym (ap verdict_numbers told.rule-1.given.1) ∙ said.0); alarms_after = said.1 }
+    record { value = c.refused.ensures ∙ ap answer_of (sym (ap verdict_numbers told.in-Refused.is) ∙ told.check.ensures.result_value); alarms_after = told.check.ensures.alarms_after }

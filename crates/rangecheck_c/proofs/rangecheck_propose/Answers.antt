@@ -5,11 +5,9 @@ use Rattle.rangecheck_c.proofs.rangecheck_propose.Goals as goal
 pub returns-in-Passed : goal.returns-in-Passed
 returns-in-Passed c =
     let told = c in
-    let said = told.propose-made.ensures in
-    record { value = proposal-told said.0 told.enum_told-1.given.1 c.proposed.ensures; proposal_after = said.1.1 }
+    record { value = proposal-told told.propose-made.ensures.value told.in-Passed.is c.proposed.ensures; proposal_after = told.propose-made.ensures.proposal_after }
 
 pub returns-in-Broken : goal.returns-in-Broken
 returns-in-Broken c =
     let told = c in
-    let said = told.propose-made.ensures in
-    record { value = refusal-told said.0 told.stage-1.given.1 c.proposed-in-Broken.ensures; proposal_after = said.1.1 }
+    record { value = refusal-told told.propose-made.ensures.value told.in-Broken.is c.proposed-in-Broken.ensures; proposal_after = told.propose-made.ensures.proposal_after }

@@ -5,19 +5,19 @@ use Rattle.rangecheck_c.proofs.rangecheck_run.Goals as goal
 pub returns-in-Broken : goal.returns-in-Broken
 returns-in-Broken c =
     let told = c in
-    broken _ _ _ told.run-played.ensures.value told.stage-1.given.1 c.refused.ensures
+    broken _ _ _ told.run-played.ensures.value told.in-Broken.is c.refused.ensures
 
 pub returns-then-answer-lt48 : goal.returns-then-answer-lt48
 returns-then-answer-lt48 c =
     let passed = c in
-    short _ _ _ passed.run-played.ensures.value passed.enum_told-1.given.1 c.if-answer-lt48.true c.refused-then-answer-lt48.ensures
+    short _ _ _ passed.run-played.ensures.value passed.in_default.is c.if-answer-lt48.true c.refused-then-answer-lt48.ensures
 
 pub returns : goal.returns
 returns c =
     let put = c in
     let room = put in
     let passed = room in
-    laid _ _ _ passed.run-played.ensures.value passed.enum_told-1.given.1 room.if-answer-lt48.false c.accepted.ensures put.lay.ensures
+    laid _ _ _ passed.run-played.ensures.value passed.in_default.is room.if-answer-lt48.false c.accepted.ensures put.lay.ensures
 
 pub lay-requires : goal.lay-requires
 lay-requires c =

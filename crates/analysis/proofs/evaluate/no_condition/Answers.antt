@@ -4,17 +4,25 @@ use mathlib.Core.Path.{refl, sym, ap}
 use mathlib.Core.Bool.{not}
 use mathlib.Core.List.{List}
 use lib.IntN.{ℤ}
+use borrow.Author.Rules.{rules}
 use Rattle.words.proofs.Bools.{clash}
 use Rattle.analysis.specs.Rows.{maybe_by}
 use Rattle.analysis.specs.Arrays.{row_in}
 use Rattle.analysis.proofs.NarrowCodeLaws.{add-alone, add-to}
 use Rattle.analysis.proofs.evaluate.no_condition.Goals as goal
 
+pub widen_if-requires : goal.widen_if-requires
+unfolding maybe_by
+widen_if-requires c =
+    search rules
+
 pub returns-then-asked : goal.returns-then-asked
+unfolding maybe_by
 returns-then-asked c =
     (λ e. clash (sym e), (refl, (refl, add-to _ _ c.if-asked.true c.widen_if.ensures)))
 
 pub returns : goal.returns
+unfolding maybe_by
 returns c =
     let test = c in
     let start = test in

@@ -9,7 +9,7 @@ pub returns : goal.returns
 returns c =
     let no = c in
     let yes = no in
-    let said = sides-of _ _ _ _ yes.split-s.ensures.decision_value in (
+    let said = sides-of _ _ _ _ yes.split-s.ensures.1 in (
       split-is _ _ _ _ _ said.0 said.1.0 said.1.1.0,
       (
         yes.clear_unless.ensures ∙ ap left_of said.1.0,

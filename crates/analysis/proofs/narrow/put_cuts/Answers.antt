@@ -1,21 +1,20 @@
 -- `analysis::narrow::put_cuts` meets its contract: one cut is put in its place and then the other, which one variable takes with the first.
 -- Assumes nothing.
-use borrow.Author.Tests.{not-true, not-false}
 use Rattle.analysis.proofs.NarrowCodeLaws.{cut-first, cut-same, cut-other}
 use Rattle.analysis.proofs.narrow.put_cuts.Goals as goal
 
 pub returns-then-not-put : goal.returns-then-not-put
 returns-then-not-put c =
-    cut-first _ _ _ _ _ _ c.put.ensures _ (not-true _ c.if-not-put.true)
+    cut-first _ _ _ _ _ _ c.put.ensures _ c.if-not-put.true
 
 pub returns-then-v-w : goal.returns-then-v-w
 returns-then-v-w c =
     let same = c in
     let first = same in
-    cut-same _ _ _ _ _ _ first.put.ensures (not-false _ first.if-not-put.false) same.if-v-w.true c.meet_at.ensures
+    cut-same _ _ _ _ _ _ first.put.ensures first.if-not-put.false same.if-v-w.true c.meet_at.ensures
 
 pub returns : goal.returns
 returns c =
     let other = c in
     let first = other in
-    cut-other _ _ _ _ _ _ first.put.ensures (not-false _ first.if-not-put.false) other.if-v-w.false c.put-2.ensures
+    cut-other _ _ _ _ _ _ first.put.ensures first.if-not-put.false other.if-v-w.false c.put-2.ensures

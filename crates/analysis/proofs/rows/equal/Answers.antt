@@ -10,7 +10,7 @@ use mir.Facts.{to_z-of_z}
 use lib.IntN.{ℤ}
 use Rattle.interval.proofs.MachineArithmetic.{ok32}
 use Rattle.interval.specs.Integer.{eq_z}
-use Rattle.words.proofs.Bools.{fails-not, holds_not}
+use Rattle.words.proofs.Bools.{fails, holds}
 use Rattle.words.proofs.FirstLaws.{check, checks, checked, fails-at}
 use Rattle.analysis.proofs.rows.equal.Goals as goal
 
@@ -25,7 +25,7 @@ returns-then-not-same c =
     let first = second in
     let turn = first in
     let same = of_words (ok32 _ first.same-arg-1.given) (ok32 _ second.same-arg-in-loop-i-1.given) test.same.ensures in
-    sym (fails-at _ _ _ turn.loop-i-test.true (fails-not same c.if-not-same.true))
+    sym (fails-at _ _ _ turn.loop-i-test.true (fails same c.if-not-same.true))
 
 pub loop-i-preserved : goal.loop-i-preserved
 loop-i-preserved c =
@@ -34,7 +34,7 @@ loop-i-preserved c =
     let first = second in
     let turn = first in
     let same = of_words (ok32 _ first.same-arg-1.given) (ok32 _ second.same-arg-in-loop-i-1.given) test.same.ensures in
-    checks turn.loop-i.invariant turn.loop-i-test.true (holds_not same c.if-not-same.false)
+    checks turn.loop-i.invariant turn.loop-i-test.true (holds same c.if-not-same.false)
 
 pub loop-i-init : goal.loop-i-init
 loop-i-init c =

@@ -15,24 +15,32 @@ pub returns-then-v-lt16 : goal.returns-then-v-lt16
 unfolding maybe_by put_of
 returns-then-v-lt16 c =
     let start = c in
-    let matched = c.s-1.given in
-    let a = matched.0.0 in
-    let b = matched.0.1.0 in
-    let a-fits : SFits w32 a = search rules in
-    let b-fits : SFits w32 b = search rules in
-    rw (matched.1, to_z-of_z a-fits, to_z-of_z b-fits) (ap some (put_in start.args.row.now start.args.v a b c.if-v-lt16.true))
+    let a-fits : SFits w32 c.in-Between.a = search rules in
+    let b-fits : SFits w32 c.in-Between.b = search rules in
+    rw (c.in-Between.is, to_z-of_z a-fits, to_z-of_z b-fits) (ap some (put_in start.args.row.now start.args.v c.in-Between.a c.in-Between.b c.if-v-lt16.true))
 
 pub returns-else-v-lt16 : goal.returns-else-v-lt16
 unfolding maybe_by put_of
 returns-else-v-lt16 c =
     let start = c in
-    let matched = c.s-1.given in
-    rw matched.1 (ap some (put-past start.args.row.now start.args.v matched.0.0 matched.0.1.0 c.if-v-lt16.false))
+    rw c.in-Between.is (ap some (put-past start.args.row.now start.args.v c.in-Between.a c.in-Between.b c.if-v-lt16.false))
+
+pub enum_known-s : goal.enum_known-s
+unfolding maybe_by put_of
+enum_known-s c =
+    search rules
+
+pub enum_told-1 : goal.enum_told-1
+unfolding maybe_by put_of
+enum_told-1 c =
+    search rules
 
 pub returns-in_default : goal.returns-in_default
+unfolding maybe_by put_of
 returns-in_default c =
-    rw c.enum_told-1.given.1 refl
+    rw c.in_default.is refl
 
 pub bounds-row-v-then-v-lt16 : goal.bounds-row-v-then-v-lt16
+unfolding maybe_by put_of
 bounds-row-v-then-v-lt16 c =
     let start = c in simp length-set (omega (arith, start.requires, c.if-v-lt16.true))

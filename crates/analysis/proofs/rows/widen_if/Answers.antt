@@ -1,14 +1,13 @@
 -- `analysis::rows::widen_if` meets its contract: none adds nothing, and else it is what `widen` leaves.
 -- Assumes nothing.
-use borrow.Author.Tests.{not-true, not-false}
 use Rattle.analysis.specs.Rows.{maybe_by}
 use Rattle.analysis.proofs.RowCodeLaws.{join-none}
 use Rattle.analysis.proofs.rows.widen_if.Goals as goal
 
 pub returns-then-not-there : goal.returns-then-not-there
 unfolding maybe_by
-returns-then-not-there c = rw (not-true c.args.there c.if-not-there.true) (join-none _)
+returns-then-not-there c = rw c.if-not-there.true (join-none _)
 
 pub returns : goal.returns
 unfolding maybe_by
-returns c = let test = c in rw (not-false test.args.there test.if-not-there.false) c.widen.ensures
+returns c = let test = c in rw test.if-not-there.false c.widen.ensures

@@ -13,14 +13,14 @@ use Rattle.checker.proofs.CheckLaws.{broken, short, written, nodes-within, marke
 use Rattle.checker.proofs.check.check.Goals as goal
 
 pub returns-in-Broken : goal.returns-in-Broken
-returns-in-Broken c = broken _ _ _ (sym c.examine.ensures.value ∙ c.rule-1.given.1)
+returns-in-Broken c = broken _ _ _ (sym c.examine.ensures.value ∙ c.in-Broken.is)
 
 pub returns-then-alarms-need : goal.returns-then-alarms-need
 returns-then-alarms-need c =
     let passed : examined_of c.args.table.now c.args.proposal.now ≡ Passed =
-        sym c.examine.ensures.value ∙ c.enum_told-1.given.1 in
+        sym c.examine.ensures.value ∙ c.in_default.is in
     let listed : let s = c.args in pairs_of (marked_at c.examine.new.1.1.0) c.number_at-nodes.result ≡ alarm_words s.table.now s.proposal.now =
-        let told = passed in marked-words _ _ told 2048 (omega (arith, nodes-within _ _ told)) c.number_at-nodes.ensures.value c.examine.ensures.result_value.1 in
+        let told = passed in marked-words _ _ told 2048 (omega (arith, nodes-within _ _ told)) c.number_at-nodes.ensures.value c.examine.ensures.marks_after in
     let counted : let s = c.args in c.needed-need.result ≡ length (alarm_words s.table.now s.proposal.now) =
         c.needed-need.ensures ∙ ap length listed in
     short _ _ passed _ counted c.if-alarms-need.true
@@ -28,7 +28,7 @@ returns-then-alarms-need c =
 pub write-requires : goal.write-requires
 write-requires c =
     let passed : examined_of c.args.table.now c.args.proposal.now ≡ Passed =
-        sym c.examine.ensures.value ∙ c.enum_told-1.given.1 in
+        sym c.examine.ensures.value ∙ c.in_default.is in
     let nodes-fit : c.number_at-nodes.result ≤ 1024 =
         rw c.number_at-nodes.ensures.value (nodes-within _ _ passed) in
     let need = c in
@@ -37,9 +37,9 @@ write-requires c =
 pub returns : goal.returns
 returns c =
     let passed : examined_of c.args.table.now c.args.proposal.now ≡ Passed =
-        sym c.examine.ensures.value ∙ c.enum_told-1.given.1 in
+        sym c.examine.ensures.value ∙ c.in_default.is in
     let listed : let s = c.args in pairs_of (marked_at c.examine.new.1.1.0) c.number_at-nodes.result ≡ alarm_words s.table.now s.proposal.now =
-        let told = passed in marked-words _ _ told 2048 (omega (arith, nodes-within _ _ told)) c.number_at-nodes.ensures.value c.examine.ensures.result_value.1 in
+        let told = passed in marked-words _ _ told 2048 (omega (arith, nodes-within _ _ told)) c.number_at-nodes.ensures.value c.examine.ensures.marks_after in
     let counted : let s = c.args in c.needed-need.result ≡ length (alarm_words s.table.now s.proposal.now) =
         c.needed-need.ensures ∙ ap length listed in
     let room = c in
@@ -51,7 +51,7 @@ returns c =
 pub needed-need-requires : goal.needed-need-requires
 needed-need-requires c =
     let passed : examined_of c.args.table.now c.args.proposal.now ≡ Passed =
-        sym c.examine.ensures.value ∙ c.enum_told-1.given.1 in
+        sym c.examine.ensures.value ∙ c.in_default.is in
     let nodes-fit : c.number_at-nodes.result ≤ 1024 =
         rw c.number_at-nodes.ensures.value (nodes-within _ _ passed) in
     nodes-fit

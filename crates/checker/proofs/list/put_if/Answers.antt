@@ -4,7 +4,6 @@ use mathlib.Core.Bool.{true}
 use native.Mathlib.Numerals.{add-one}
 use native.Mathlib.Nat.{add-zero}
 use native.Mathlib.Omega.{arith}
-use borrow.Author.Tests.{not-true, not-false}
 use lib.ListN.{length-set}
 use mir.Syntax.{w32}
 use mir.ValLaws.{to_z_pos}
@@ -13,27 +12,26 @@ use Rattle.checker.proofs.list.put_if.Goals as goal
 
 pub returns-then-not-told : goal.returns-then-not-told
 unfolding pair_if
-returns-then-not-told c = rw (not-true c.args.told c.if-not-told.true) (sym (add-zero _), refl)
+returns-then-not-told c = rw c.if-not-told.true (sym (add-zero _), refl)
 
 pub bounds-out-at : goal.bounds-out-at
 unfolding pair_if
 bounds-out-at c =
     let told : c.args.told ≡ true =
-        not-false _ c.if-not-told.false in
+        c.if-not-told.false in
     let room = rw told at c.requires.kind_in_bounds in omega arith
 
 pub bounds-out-at-2 : goal.bounds-out-at-2
 unfolding pair_if
 bounds-out-at-2 c =
     let told : c.args.told ≡ true =
-        not-false _ c.if-not-told.false in
+        c.if-not-told.false in
     let room = rw told at c.requires.kind_in_bounds in rw length-set (omega arith)
 
 pub returns : goal.returns
 unfolding pair_if
 returns c =
     let told : c.args.told ≡ true =
-        not-false _ c.if-not-told.false in
+        c.if-not-told.false in
     let args = c.args in
-    let small = c.requires.n_bound in
-    rw told (refl, rw (add-one, to_z_pos w32 args.n (omega (arith, small.0)), to_z_pos w32 args.kind (omega (arith, small.1))))
+    rw told (refl, rw (add-one, to_z_pos w32 args.n (omega (arith, c.requires.n_bound.0)), to_z_pos w32 args.kind (omega (arith, c.requires.n_bound.1))))

@@ -29,10 +29,10 @@ loop-n-preserved c =
     let f = marked_at args.marks.now in
     let n = loop.loop-n.n in
     let v = loop.loop-n.invariant in
-    let e = put.put_node-at.ensures in (
+    (
       omega arith,
-      rw (pairs-more, length-append, ← v.1) e.0,
-      rw pairs-more (e.1 ∙ rw (v.1, v.2) (front-more (pairs_of f n) (pairs_at f n) args.out.now fits)),
+      rw (pairs-more, length-append, ← v.1) put.put_node-at.ensures.value,
+      rw pairs-more (put.put_node-at.ensures.out_after ∙ rw (v.1, v.2) (front-more (pairs_of f n) (pairs_at f n) args.out.now fits)),
       put.put_node-at.auto.1.1.0 ∙ v.3,
     )
 

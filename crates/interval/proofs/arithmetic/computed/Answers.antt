@@ -6,8 +6,8 @@ use Rattle.interval.proofs.arithmetic.computed.Goals as goal
 
 pub returns-in-NoPair : goal.returns-in-NoPair
 unfolding computed_of
-returns-in-NoPair c = rw c.enum_told-1.given.1
+returns-in-NoPair c = rw c.in-NoPair.is
 
 pub returns-in-Pair : goal.returns-in-Pair
 unfolding computed_of
-returns-in-Pair c = rw c.u-1.given.1 (search (rules, c.clamp.ensures, c.passes.ensures))
+returns-in-Pair c = rw c.in-Pair.is (search (rules, c.clamp.ensures, c.passes.ensures))

@@ -9,11 +9,11 @@ use Rattle.interval.proofs.arithmetic.either_part.Goals as goal
 
 pub returns-in-NoPair : goal.returns-in-NoPair
 unfolding either_part_of
-returns-in-NoPair c = rw c.enum_told-1.given.1
+returns-in-NoPair c = rw c.in-NoPair.is
 
 pub returns-in-NoPair-v : goal.returns-in-NoPair-v
 unfolding either_part_of
-returns-in-NoPair-v c = rw (c.u-1.given.1, c.enum_told-in-NoPair-v-1.given.1)
+returns-in-NoPair-v c = rw (c.in-Pair.is, c.in-NoPair-v.is)
 
 pub returns-in-Pair-v : goal.returns-in-Pair-v
 unfolding either_part_of
@@ -22,10 +22,8 @@ returns-in-Pair-v c =
     let high = c.max64 in
     let right = c in
     let left = right in
-    let u = left.u-1.given in
-    let v = right.v-1.given in
-    let fa = ok64 u.0.0 left.known_told-1.given.0.1 in
-    let fb = ok64 u.0.1.0 left.known_told-1.given.1.0.1 in
-    let fc = ok64 v.0.0 right.known_told-in-Pair-1.given.0.1 in
-    let fd = ok64 v.0.1.0 right.known_told-in-Pair-1.given.1.0.1 in
-    rw (u.1, v.1) (handed-pair low.ensures low.type_inv high.ensures high.type_inv ∙ simp to_z-of_z)
+    let fa = ok64 left.in-Pair.a left.in-Pair.known_told-1-own.given.0.1 in
+    let fb = ok64 left.in-Pair.b left.in-Pair.known_told-1-own.given.1.0.1 in
+    let fc = ok64 right.in-Pair-v.c right.in-Pair-v.known_told-in-Pair-1-own.given.0.1 in
+    let fd = ok64 right.in-Pair-v.d right.in-Pair-v.known_told-in-Pair-1-own.given.1.0.1 in
+    rw (left.in-Pair.is, right.in-Pair-v.is) (handed-pair low.ensures low.type_inv high.ensures high.type_inv ∙ simp to_z-of_z)

@@ -6,30 +6,30 @@ use Rattle.interval.proofs.arithmetic.operate.Goals as goal
 
 pub returns-in_default : goal.returns-in_default
 unfolding operate_of
-returns-in_default c = with_none _ _ _ c.taken.ensures c.enum_told-1.given.1 c.nothing.ensures
+returns-in_default c = with_none _ _ _ c.taken.ensures c.in_default.is c.nothing.ensures
 
 pub returns-in_default-taken : goal.returns-in_default-taken
 unfolding operate_of
 returns-in_default-taken c =
-    let left : TakenAs c.args.x c.a-1.given.0.0 c.a-1.given.0.1.0 =
-        taken_as _ _ _ c.taken.ensures c.a-1.given.1 c.known_told-1.given.0.1 c.known_told-1.given.1.0.1 in
+    let left : TakenAs c.args.x c.in-Between.a c.in-Between.b =
+        taken_as _ _ _ c.taken.ensures c.in-Between.is c.in-Between.known_told-1-own.given.0.1 c.in-Between.known_told-1-own.given.1.0.1 in
     let k = c in
-    with-ends _ _ left (with_none _ _ _ k.taken-2.ensures c.enum_told-in_default-taken-1.given.1 c.nothing-in_default-taken.ensures)
+    with-ends _ _ left (with_none _ _ _ k.taken-2.ensures c.in_default-taken.is c.nothing-in_default-taken.ensures)
 
 pub uncut-requires : goal.uncut-requires
 uncut-requires c =
-    let left : TakenAs c.args.x c.a-1.given.0.0 c.a-1.given.0.1.0 =
-        taken_as _ _ _ c.taken.ensures c.a-1.given.1 c.known_told-1.given.0.1 c.known_told-1.given.1.0.1 in
-    let right : TakenAs c.args.y c.c-1.given.0.0 c.c-1.given.0.1.0 =
-        taken_as _ _ _ c.taken-2.ensures c.c-1.given.1 c.known_told-in-Between-taken-2-1.given.0.1 c.known_told-in-Between-taken-2-1.given.1.0.1 in
+    let left : TakenAs c.args.x c.in-Between.a c.in-Between.b =
+        taken_as _ _ _ c.taken.ensures c.in-Between.is c.in-Between.known_told-1-own.given.0.1 c.in-Between.known_told-1-own.given.1.0.1 in
+    let right : TakenAs c.args.y c.in-Between-taken.c c.in-Between-taken.d =
+        taken_as _ _ _ c.taken-2.ensures c.in-Between-taken.is c.in-Between-taken.known_told-in-Between-taken-2-1-own.given.0.1 c.in-Between-taken.known_told-in-Between-taken-2-1-own.given.1.0.1 in
     record { a_le_b = words-ordered left; c_le_d = words-ordered right }
 
 pub returns : goal.returns
 unfolding operate_of
 returns c =
-    let left : TakenAs c.args.x c.a-1.given.0.0 c.a-1.given.0.1.0 =
-        taken_as _ _ _ c.taken.ensures c.a-1.given.1 c.known_told-1.given.0.1 c.known_told-1.given.1.0.1 in
-    let right : TakenAs c.args.y c.c-1.given.0.0 c.c-1.given.0.1.0 =
-        taken_as _ _ _ c.taken-2.ensures c.c-1.given.1 c.known_told-in-Between-taken-2-1.given.0.1 c.known_told-in-Between-taken-2-1.given.1.0.1 in
+    let left : TakenAs c.args.x c.in-Between.a c.in-Between.b =
+        taken_as _ _ _ c.taken.ensures c.in-Between.is c.in-Between.known_told-1-own.given.0.1 c.in-Between.known_told-1-own.given.1.0.1 in
+    let right : TakenAs c.args.y c.in-Between-taken.c c.in-Between-taken.d =
+        taken_as _ _ _ c.taken-2.ensures c.in-Between-taken.is c.in-Between-taken.known_told-in-Between-taken-2-1-own.given.0.1 c.in-Between-taken.known_told-in-Between-taken-2-1-own.given.1.0.1 in
     let k = c in
     with-both _ _ left right (rw (c.computed.ensures, c.uncut.ensures, c.zero_in.ensures))

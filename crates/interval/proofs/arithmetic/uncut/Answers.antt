@@ -15,7 +15,7 @@ returns-in-Sum c =
         let f = c.ranges in simp (to_z-of_z, f.a, f.b, f.c, f.d) c.requires in
     let s = c in
     let f = s.ranges in
-    arm uncut_of f.a f.b f.c f.d c.enum_told-1.given.1
+    arm uncut_of f.a f.b f.c f.d c.in-Sum.is
     (handed-pair c.plus.ensures c.plus.type_inv c.plus-in-Sum.ensures c.plus-in-Sum.type_inv ∙ sym (corners-sum _ _ _ _ ordered.0 ordered.1))
 
 pub returns-in-Difference : goal.returns-in-Difference
@@ -25,7 +25,7 @@ returns-in-Difference c =
         let f = c.ranges in simp (to_z-of_z, f.a, f.b, f.c, f.d) c.requires in
     let s = c in
     let f = s.ranges in
-    arm uncut_of f.a f.b f.c f.d c.enum_told-in-Difference-1.given.1
+    arm uncut_of f.a f.b f.c f.d c.in-Difference.is
     (handed-pair c.minus.ensures c.minus.type_inv c.minus-in-Difference.ensures c.minus-in-Difference.type_inv ∙ sym (corners-difference _ _ _ _ ordered.0 ordered.1))
 
 pub returns-in-Product : goal.returns-in-Product
@@ -37,7 +37,7 @@ returns-in-Product c =
     let ac = c.times in
     let told = c in
     let f = told.ranges in
-    arm uncut_of f.a f.b f.c f.d told.enum_told-in-Product-1.given.1
+    arm uncut_of f.a f.b f.c f.d told.in-Product.is
     (rw c.hull.ensures
     (simp (handed64 ac.ensures ac.type_inv, handed64 ad.ensures ad.type_inv, handed64 bc.ensures bc.type_inv, handed64 bd.ensures bd.type_inv)))
 
@@ -46,11 +46,11 @@ unfolding uncut_of
 returns-in-Quotient c =
     let told = c in
     let f = told.ranges in
-    arm uncut_of f.a f.b f.c f.d told.enum_told-in-Quotient-1.given.1 (rw (c.either_part.ensures, c.below.ensures, c.above.ensures))
+    arm uncut_of f.a f.b f.c f.d told.in-Quotient.is (rw (c.either_part.ensures, c.below.ensures, c.above.ensures))
 
 pub returns-in-Remainder : goal.returns-in-Remainder
 unfolding uncut_of
 returns-in-Remainder c =
     let told = c in
     let f = told.ranges in
-    arm uncut_of f.a f.b f.c f.d told.enum_told-in-Remainder-1.given.1 c.remainders.ensures
+    arm uncut_of f.a f.b f.c f.d told.in-Remainder.is c.remainders.ensures

@@ -10,15 +10,15 @@ pub returns-in_default : goal.returns-in_default
 unfolding compare_of
 returns-in_default c =
     let x = c in
-    c.neither.ensures ∙ sym (taken_none _ _ _ (sym x.taken.ensures ∙ x.enum_told-1.given.1))
+    c.neither.ensures ∙ sym (taken_none _ _ _ (sym x.taken.ensures ∙ x.in_default.is))
 
 pub returns-in_default-taken : goal.returns-in_default-taken
 unfolding compare_of
 returns-in_default-taken c =
     let y = c in
     let x = y in
-    let x-ends = sym x.taken.ensures ∙ x.a-1.given.1 in
-    let y-none = sym y.taken-2.ensures ∙ c.enum_told-in_default-taken-1.given.1 in
+    let x-ends = sym x.taken.ensures ∙ x.in-Between.is in
+    let y-none = sym y.taken-2.ensures ∙ c.in_default-taken.is in
     rw (taken-ends _ _ _ _ _ x-ends, taken_none _ _ _ y-none) c.neither-in_default-taken.ensures
 
 pub returns : goal.returns
@@ -26,6 +26,6 @@ unfolding compare_of
 returns c =
     let y = c in
     let x = y in
-    let x-ends = sym x.taken.ensures ∙ x.a-1.given.1 in
-    let y-ends = sym y.taken-2.ensures ∙ y.c-1.given.1 in
+    let x-ends = sym x.taken.ensures ∙ x.in-Between.is in
+    let y-ends = sym y.taken-2.ensures ∙ y.in-Between-taken.is in
     rw (taken-ends _ _ _ _ _ x-ends, taken-ends _ _ _ _ _ y-ends) (search (rules, c.decide.ensures))

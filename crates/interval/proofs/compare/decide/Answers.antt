@@ -6,16 +6,16 @@ use Rattle.interval.proofs.compare.decide.Goals as goal
 
 pub returns-in-Less : goal.returns-in-Less
 unfolding decide_of
-returns-in-Less c = rw c.enum_told-1.given.1 (search rules)
+returns-in-Less c = rw c.in-Less.is (search rules)
 
 pub returns-in-AtMost : goal.returns-in-AtMost
 unfolding decide_of
-returns-in-AtMost c = rw c.enum_told-in-AtMost-1.given.1 (search rules)
+returns-in-AtMost c = rw c.in-AtMost.is (search rules)
 
 pub returns-in-Equal : goal.returns-in-Equal
 unfolding decide_of
-returns-in-Equal c = rw c.enum_told-in-Equal-1.given.1 (search (rules, c.meets.ensures, c.same_single.ensures))
+returns-in-Equal c = rw c.in-Equal.is (search (rules, c.meets.ensures, c.same_single.ensures))
 
 pub returns-in-NotEqual : goal.returns-in-NotEqual
 unfolding decide_of
-returns-in-NotEqual c = rw c.enum_told-in-NotEqual-1.given.1 (search (rules, c.same_single-in-NotEqual.ensures, c.meets-in-NotEqual.ensures))
+returns-in-NotEqual c = rw c.in-NotEqual.is (search (rules, c.same_single-in-NotEqual.ensures, c.meets-in-NotEqual.ensures))

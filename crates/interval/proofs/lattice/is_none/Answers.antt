@@ -5,7 +5,7 @@ use Rattle.interval.proofs.IntervalLaws.{taken-ends, taken_none}
 use Rattle.interval.proofs.lattice.is_none.Goals as goal
 
 pub returns-in-None : goal.returns-in-None
-returns-in-None c = sym (taken_none _ _ _ (sym c.taken.ensures ∙ c.enum_told-1.given.1))
+returns-in-None c = sym (taken_none _ _ _ (sym c.taken.ensures ∙ c.in-None.is))
 
 pub returns-in-Between : goal.returns-in-Between
-returns-in-Between c = sym (taken-ends _ _ _ _ _ (sym c.taken.ensures ∙ c.enum_told-in-Between-1.given.1))
+returns-in-Between c = sym (taken-ends _ _ _ _ _ (sym c.taken.ensures ∙ c.in-Between.is))

@@ -13,15 +13,15 @@ pub returns-in_default : goal.returns-in_default
 unfolding join_of
 returns-in_default c =
     let x = c in
-    c.taken-in_default.ensures ∙ sym (taken_none _ _ _ (sym x.taken.ensures ∙ x.enum_told-1.given.1))
+    c.taken-in_default.ensures ∙ sym (taken_none _ _ _ (sym x.taken.ensures ∙ x.in_default.is))
 
 pub returns-in_default-taken : goal.returns-in_default-taken
 unfolding join_of
 returns-in_default-taken c =
     let y = c in
     let x = y in
-    let x-ends = sym x.taken.ensures ∙ x.a-1.given.1 in
-    let y-none = sym y.taken-2.ensures ∙ c.enum_told-in_default-taken-1.given.1 in
+    let x-ends = sym x.taken.ensures ∙ x.in-Between.is in
+    let y-none = sym y.taken-2.ensures ∙ c.in_default-taken.is in
     rw (taken-ends _ _ _ _ _ x-ends, taken_none _ _ _ y-none) (search rules)
 
 pub returns : goal.returns
@@ -30,8 +30,8 @@ returns c =
     let low = c in
     let y = low in
     let x = y in
-    let x-ends = sym x.taken.ensures ∙ x.a-1.given.1 in
-    let y-ends = sym y.taken-2.ensures ∙ y.c-1.given.1 in
+    let x-ends = sym x.taken.ensures ∙ x.in-Between.is in
+    let y-ends = sym y.taken-2.ensures ∙ y.in-Between-taken.is in
     let low_fits : SFits w32 low.min32.result = search rules in
     let high_fits : SFits w32 c.max32.result = search rules in
     rw (taken-ends _ _ _ _ _ x-ends, taken-ends _ _ _ _ _ y-ends) (simp to_z-of_z (search (rules, low.min32.ensures, c.max32.ensures)))

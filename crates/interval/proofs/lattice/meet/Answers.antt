@@ -11,15 +11,15 @@ use Rattle.interval.proofs.lattice.meet.Goals as goal
 
 pub returns-in_default : goal.returns-in_default
 unfolding meet_of
-returns-in_default c = sym (taken_none _ _ _ (sym c.taken.ensures ∙ c.enum_told-1.given.1))
+returns-in_default c = sym (taken_none _ _ _ (sym c.taken.ensures ∙ c.in_default.is))
 
 pub returns-in_default-taken : goal.returns-in_default-taken
 unfolding meet_of
 returns-in_default-taken c =
     let y = c in
     let x = y in
-    let x-ends = sym x.taken.ensures ∙ x.a-1.given.1 in
-    let y-none = sym y.taken-2.ensures ∙ c.enum_told-in_default-taken-1.given.1 in
+    let x-ends = sym x.taken.ensures ∙ x.in-Between.is in
+    let y-none = sym y.taken-2.ensures ∙ c.in_default-taken.is in
     rw (taken-ends _ _ _ _ _ x-ends, taken_none _ _ _ y-none)
 
 -- x_Fits, that the ends of x fit, is bound since it lies too far back for `search` to find
@@ -31,9 +31,8 @@ returns c =
     let y = low in
     let x-told = y in
     let x = x-told in
-    let x_Fits = x-told.known_told-1.given in
-    let x-ends = sym x.taken.ensures ∙ x.a-1.given.1 in
-    let y-ends = sym y.taken-2.ensures ∙ y.c-1.given.1 in
+    let x-ends = sym x.taken.ensures ∙ x.in-Between.is in
+    let y-ends = sym y.taken-2.ensures ∙ y.in-Between-taken.is in
     let low_fits : SFits w32 low.max32.result = search rules in
     let high_fits : SFits w32 high.min32.result = search rules in
     let r = simp to_z-of_z at c.between.ensures in

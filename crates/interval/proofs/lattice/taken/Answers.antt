@@ -6,8 +6,8 @@ use Rattle.interval.proofs.lattice.taken.Goals as goal
 
 pub returns-in-None : goal.returns-in-None
 unfolding on_ends
-returns-in-None c = rw c.enum_told-1.given.1
+returns-in-None c = rw c.in-None.is
 
 pub returns-in-Between : goal.returns-in-Between
 unfolding on_ends
-returns-in-Between c = rw c.x-1.given.1 (search (rules, c.between.ensures))
+returns-in-Between c = rw c.in-Between.is (search (rules, c.between.ensures))

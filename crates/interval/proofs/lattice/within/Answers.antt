@@ -8,15 +8,15 @@ use Rattle.interval.proofs.lattice.within.Goals as goal
 
 pub returns-in_default : goal.returns-in_default
 unfolding within_of
-returns-in_default c = sym (taken_none _ _ _ (sym c.taken.ensures ∙ c.enum_told-1.given.1))
+returns-in_default c = sym (taken_none _ _ _ (sym c.taken.ensures ∙ c.in_default.is))
 
 pub returns-in_default-taken : goal.returns-in_default-taken
 unfolding within_of
 returns-in_default-taken c =
     let y = c in
     let x = y in
-    let x-ends = sym x.taken.ensures ∙ x.a-1.given.1 in
-    let y-none = sym y.taken-2.ensures ∙ c.enum_told-in_default-taken-1.given.1 in
+    let x-ends = sym x.taken.ensures ∙ x.in-Between.is in
+    let y-none = sym y.taken-2.ensures ∙ c.in_default-taken.is in
     rw (taken-ends _ _ _ _ _ x-ends, taken_none _ _ _ y-none)
 
 pub returns : goal.returns
@@ -24,6 +24,6 @@ unfolding within_of
 returns c =
     let y = c in
     let x = y in
-    let x-ends = sym x.taken.ensures ∙ x.a-1.given.1 in
-    let y-ends = sym y.taken-2.ensures ∙ y.c-1.given.1 in
+    let x-ends = sym x.taken.ensures ∙ x.in-Between.is in
+    let y-ends = sym y.taken-2.ensures ∙ y.in-Between-taken.is in
     rw (taken-ends _ _ _ _ _ x-ends, taken-ends _ _ _ _ _ y-ends) (search rules)

@@ -6,16 +6,16 @@ use Rattle.interval.proofs.narrow.cuts_yes.Goals as goal
 
 pub returns-in-Less : goal.returns-in-Less
 returns-in-Less c =
-    let f = c.ranges in arm cuts_at f.a f.b f.c f.d c.enum_told-1.given.1 c.cuts_less.ensures
+    let f = c.ranges in arm cuts_at f.a f.b f.c f.d c.in-Less.is c.cuts_less.ensures
 
 pub returns-in-AtMost : goal.returns-in-AtMost
 returns-in-AtMost c =
-    let f = c.ranges in arm cuts_at f.a f.b f.c f.d c.enum_told-in-AtMost-1.given.1 c.cuts_at_most.ensures
+    let f = c.ranges in arm cuts_at f.a f.b f.c f.d c.in-AtMost.is c.cuts_at_most.ensures
 
 pub returns-in-Equal : goal.returns-in-Equal
 returns-in-Equal c =
-    let f = c.ranges in arm cuts_at f.a f.b f.c f.d c.enum_told-in-Equal-1.given.1 c.cuts_equal.ensures
+    let f = c.ranges in arm cuts_at f.a f.b f.c f.d c.in-Equal.is c.cuts_equal.ensures
 
 pub returns-in-NotEqual : goal.returns-in-NotEqual
 returns-in-NotEqual c =
-    let f = c.ranges in arm cuts_at f.a f.b f.c f.d c.enum_told-in-NotEqual-1.given.1 c.cuts_not_equal.ensures
+    let f = c.ranges in arm cuts_at f.a f.b f.c f.d c.in-NotEqual.is c.cuts_not_equal.ensures

@@ -36,14 +36,14 @@ assign-requires c =
     let x = c in
     let at = x in
     let pre = at.requires in
-    record { passes = pre.0; p_bound = (pre.1.0, stands at x.x-1.given.1) }
+    record { passes = pre.0; p_bound = (pre.1.0, stands at x.in-Assign.is) }
 
 pub test-requires : goal.test-requires
 unfolding FormedPoint
 test-requires c =
     let x = c in
     let at = x in
-    let named = names at x.x-in-Test-1.given.1 in
+    let named = names at x.in-Test.is in
     record { passes = at.requires.passes.0; y_bound = (named.1.point, named.2.point) }
 
 pub lock-requires : goal.lock-requires
@@ -52,7 +52,7 @@ lock-requires c =
     let x = c in
     let at = x in
     let pre = at.requires in
-    let named = names at x.x-in-Lock-1.given.1 in
+    let named = names at x.in-Lock.is in
     record { passes = pre.0.0; p_bound = (omega (arith, pre.1.0, pre.0.0.points.high), named.0, named.1.point) }
 
 pub unlock-requires : goal.unlock-requires
@@ -61,16 +61,16 @@ unlock-requires c =
     let x = c in
     let at = x in
     let pre = at.requires in
-    let named = names at x.x-in-Unlock-1.given.1 in
+    let named = names at x.in-Unlock.is in
     record { passes = pre.0.0; p_bound = (omega (arith, pre.1.0, pre.0.0.points.high), named.0, named.1.point) }
 
 pub row_at-row-requires : goal.row_at-row-requires
 row_at-row-requires c =
-    let pre = c.requires in record { passes = pre.0.0; k_bound = omega (arith, pre.1.0) }
+    record { passes = c.requires.passes.0; k_bound = omega (arith, c.requires.p_bound) }
 
 pub returns-in-End : goal.returns-in-End
 returns-in-End c =
-    let at = c in arm at c.enum_told-1.given.1 (end-left _ _ _ _ _ _)
+    let at = c in arm at c.in-End.is (end-left _ _ _ _ _ _)
 
 pub returns-in-Assign : goal.returns-in-Assign
 returns-in-Assign c =
@@ -78,7 +78,7 @@ returns-in-Assign c =
         let a = c.args in table_row a.t.now a.rows.now a.p in
     let x = c in
     let at = x in
-    arm at x.x-1.given.1 (c.assign.ensures row at.row_at-row.ensures)
+    arm at x.in-Assign.is (c.assign.ensures row at.row_at-row.ensures)
 
 pub returns-in-Test : goal.returns-in-Test
 returns-in-Test c =
@@ -87,7 +87,7 @@ returns-in-Test c =
     let x = c in
     let at = x in
     let a = at.args in
-    arm at x.x-in-Test-1.given.1 (c.test.ensures (held_in a.plan.now) a.entries.now a.p row at.row_at-row.ensures)
+    arm at x.in-Test.is (c.test.ensures (held_in a.plan.now) a.entries.now a.p row at.row_at-row.ensures)
 
 pub returns-in-Lock : goal.returns-in-Lock
 returns-in-Lock c =
@@ -95,7 +95,7 @@ returns-in-Lock c =
         let a = c.args in table_row a.t.now a.rows.now a.p in
     let x = c in
     let at = x in
-    arm at x.x-in-Lock-1.given.1 (c.lock.ensures at.args.entries.now row at.row_at-row.ensures)
+    arm at x.in-Lock.is (c.lock.ensures at.args.entries.now row at.row_at-row.ensures)
 
 pub returns-in-Unlock : goal.returns-in-Unlock
 returns-in-Unlock c =
@@ -103,4 +103,4 @@ returns-in-Unlock c =
         let a = c.args in table_row a.t.now a.rows.now a.p in
     let x = c in
     let at = x in
-    arm at x.x-in-Unlock-1.given.1 (c.unlock.ensures at.args.entries.now row at.row_at-row.ensures)
+    arm at x.in-Unlock.is (c.unlock.ensures at.args.entries.now row at.row_at-row.ensures)

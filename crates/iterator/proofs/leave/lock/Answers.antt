@@ -12,23 +12,21 @@ use Rattle.iterator.proofs.leave.lock.Goals as goal
 pub returns-then-not-disjoint : goal.returns-then-not-disjoint
 returns-then-not-disjoint c entries x own =
     let mutex-held : let a = c.args in has_of (held_in a.plan.now a.p) a.m ≡ not c.disjoint.result =
-        let start = c in let pre = start.requires in mutex-is start.args.plan.now _ _ pre.1.0 (mutex-fits pre.0 pre.1.1) c.disjoint.ensures in
+        let start = c in mutex-is start.args.plan.now _ _ start.requires.p_bound.0 (mutex-fits start.requires.passes start.requires.p_bound.1) c.disjoint.ensures in
     lock-held _ _ _ _ _ _ _ _ (mutex-held ∙ c.if-not-disjoint.true)
 
 pub row_of-rest-requires : goal.row_of-rest-requires
 row_of-rest-requires c =
-    let pre = c.requires in
-    record { passes = pre.0; k_bound = omega (arith, c.number_at.ensures.value, pre.1.1) }
+    record { passes = c.requires.passes; k_bound = omega (arith, c.number_at.ensures.value, c.requires.p_bound.1) }
 
 pub meet_rows-requires : goal.meet_rows-requires
 meet_rows-requires c =
-    let pre = c.requires in
-    omega (arith, c.number_at-2.ensures.value, pre.0.variables.high)
+    omega (arith, c.number_at-2.ensures.value, c.requires.passes.variables.high)
 
 pub returns-then-meet_rows : goal.returns-then-meet_rows
 returns-then-meet_rows c entries x own =
     let mutex-held : let a = c.args in has_of (held_in a.plan.now a.p) a.m ≡ not c.disjoint.result =
-        let start = c in let pre = start.requires in mutex-is start.args.plan.now _ _ pre.1.0 (mutex-fits pre.0 pre.1.1) c.disjoint.ensures in
+        let start = c in mutex-is start.args.plan.now _ _ start.requires.p_bound.0 (mutex-fits start.requires.passes start.requires.p_bound.1) c.disjoint.ensures in
     let test₂ = c in
     let meet = test₂ in
     let variables = meet in
@@ -36,24 +34,22 @@ returns-then-meet_rows c entries x own =
     let points = rest in
     let left = points in
     let test = left in
-    let pre = test.requires in
     let said = rw variables.number_at-2.ensures.value at meet.meet_rows.ensures in
-    lock-met-left _ _ rest.row_of-rest.result _ _ _ _ pre.0 own (rw points.number_at.ensures.value at rest.row_of-rest.ensures)
+    lock-met-left _ _ rest.row_of-rest.result _ _ _ _ test.requires.passes own (rw points.number_at.ensures.value at rest.row_of-rest.ensures)
     (mutex-held ∙ left.if-not-disjoint.false)
     _ _ _ (sym said.0 ∙ test₂.if-meet_rows.true) (said.1 test₂.if-meet_rows.true) c.take_row.ensures
 
 pub returns-else-meet_rows : goal.returns-else-meet_rows
 returns-else-meet_rows c entries x own =
     let mutex-held : let a = c.args in has_of (held_in a.plan.now a.p) a.m ≡ not c.disjoint.result =
-        let start = c in let pre = start.requires in mutex-is start.args.plan.now _ _ pre.1.0 (mutex-fits pre.0 pre.1.1) c.disjoint.ensures in
+        let start = c in mutex-is start.args.plan.now _ _ start.requires.p_bound.0 (mutex-fits start.requires.passes start.requires.p_bound.1) c.disjoint.ensures in
     let meet = c in
     let variables = meet in
     let rest = variables in
     let points = rest in
     let left = points in
     let test = left in
-    let pre = test.requires in
     let said = rw variables.number_at-2.ensures.value at meet.meet_rows.ensures in
-    lock-apart-left _ _ rest.row_of-rest.result _ _ _ _ pre.0 own (rw points.number_at.ensures.value at rest.row_of-rest.ensures)
+    lock-apart-left _ _ rest.row_of-rest.result _ _ _ _ test.requires.passes own (rw points.number_at.ensures.value at rest.row_of-rest.ensures)
     (mutex-held ∙ left.if-not-disjoint.false)
     _ (sym said.0 ∙ c.if-meet_rows.false)

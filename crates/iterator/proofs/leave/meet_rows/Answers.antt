@@ -2,7 +2,7 @@
 use Prim.Native.Nat.{◌-◌}
 use mathlib.Core.Path.{sym}
 use native.Mathlib.Omega.{arith}
-use Rattle.words.proofs.Bools.{clash, fails-not, holds_not}
+use Rattle.words.proofs.Bools.{clash, fails, holds}
 use Rattle.iterator.proofs.MeetLaws.{meet, meets-fail, meets-next, met}
 use Rattle.iterator.proofs.leave.meet_rows.Goals as goal
 
@@ -19,7 +19,7 @@ returns-then-not-meet_at c =
     let at = c in
     let turn = at in
     let loop = turn in
-    record { value = meets-fail loop.loop-v.invariant turn.loop-v-test.true loop.requires (fails-not at.meet_at.ensures.value c.if-not-meet_at.true); met_to = λ e. clash (sym e) }
+    record { value = meets-fail loop.loop-v.invariant turn.loop-v-test.true loop.requires (fails at.meet_at.ensures.value c.if-not-meet_at.true); met_to = λ e. clash (sym e) }
 
 pub loop-v-preserved : goal.loop-v-preserved
 loop-v-preserved c =
@@ -28,7 +28,7 @@ loop-v-preserved c =
     let loop = turn in
     rw at.meet_at.ensures.row_after
     (meets-next loop.loop-v.invariant turn.loop-v-test.true loop.requires
-    (omega (arith, at.meet_at-arg-1.given.0.1)) (holds_not at.meet_at.ensures.value c.if-not-meet_at.false))
+    (omega (arith, at.meet_at-arg-1.given.0.1)) (holds at.meet_at.ensures.value c.if-not-meet_at.false))
 
 pub returns : goal.returns
 returns c = let done = met c.loop-v.invariant c.loop-v-test.false in record { value = done.0; met_to = λ e. done.1 }

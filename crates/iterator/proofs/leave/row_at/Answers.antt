@@ -11,8 +11,5 @@ returns c =
     let points = mutexes in
     let variables = points in
     let start = variables in
-    let n = variables.number_at-n.ensures.value in
-    let p = points.number_at.ensures.value in
-    let m = mutexes.number_at-2.ensures.value in
     row_carries start.args.t.now start.args.rows.now start.args.k start.requires.k_bound start.requires.passes arg.lows_at-arg-1.given.0
-    (rw (n, p, m) at lows.lows_at.ensures) (rw (n, p, m) at highs.highs_at.ensures) c.own.ensures
+    (rw (variables.number_at-n.ensures.value, points.number_at.ensures.value, mutexes.number_at-2.ensures.value) at lows.lows_at.ensures) (rw (variables.number_at-n.ensures.value, points.number_at.ensures.value, mutexes.number_at-2.ensures.value) at highs.highs_at.ensures) c.own.ensures

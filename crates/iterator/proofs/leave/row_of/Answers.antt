@@ -1,5 +1,5 @@
 -- `iterator::leave::row_of` meets its contract: there are zeros where no row is. Assumes nothing.
-use Rattle.words.proofs.Bools.{fails-not, holds_not}
+use Rattle.words.proofs.Bools.{fails, holds}
 use Rattle.iterator.proofs.OwnLaws.{absent-own, there-own}
 use Rattle.iterator.proofs.leave.row_of.Goals as goal
 
@@ -7,12 +7,12 @@ pub returns-then-not-is_there : goal.returns-then-not-is_there
 returns-then-not-is_there c =
     let there = c in
     let start = there in
-    absent-own start.args.t.now start.args.rows.now start.args.k start.requires.k_bound (fails-not there.is_there.ensures c.if-not-is_there.true)
+    absent-own start.args.t.now start.args.rows.now start.args.k start.requires.k_bound (fails there.is_there.ensures c.if-not-is_there.true)
 
 pub returns : goal.returns
 returns c =
     let test = c in
     let there = test in
     let start = there in
-    there-own start.args.t.now start.args.rows.now start.args.k start.requires.k_bound (holds_not there.is_there.ensures test.if-not-is_there.false)
+    there-own start.args.t.now start.args.rows.now start.args.k start.requires.k_bound (holds there.is_there.ensures test.if-not-is_there.false)
     c.row_at.ensures.words

@@ -5,7 +5,7 @@ use mathlib.Core.Path.{sym, ap, ap₂, ◌∙◌}
 use mathlib.Core.Bool.{true}
 use native.Mathlib.Omega.{arith}
 use Rattle.words.specs.Words.{word_of}
-use Rattle.words.proofs.Bools.{fails-not, holds_not}
+use Rattle.words.proofs.Bools.{fails, holds}
 use Rattle.words.proofs.Signed.{read_back}
 use Rattle.iterator.proofs.RoomLaws.{rows-have_room}
 use Rattle.iterator.proofs.PlacesLaws.{place_none}
@@ -33,19 +33,18 @@ returns c =
     let low = high in
     let there = low in
     let start = there in
-    let points = low.number_at-points.ensures.value in
     into-is start.requires.ready _ _ _ _
     variables.number_at.ensures.value
-    (ap₂ (λ (x y : ℕ). x + y) points mutexes.number_at-2.ensures.value)
-    (read_back low.low-1.given ∙ ap (λ (x : ℕ). word_of start.args.entries.now (1 + x + start.args.q)) points)
-    (read_back high.high-1.given ∙ ap (λ (x : ℕ). word_of start.args.entries.now (1 + x + x + start.args.q)) points)
+    (ap₂ (λ (x y : ℕ). x + y) low.number_at-points.ensures.value mutexes.number_at-2.ensures.value)
+    (read_back low.low-1.given ∙ ap (λ (x : ℕ). word_of start.args.entries.now (1 + x + start.args.q)) low.number_at-points.ensures.value)
+    (read_back high.high-1.given ∙ ap (λ (x : ℕ). word_of start.args.entries.now (1 + x + x + start.args.q)) low.number_at-points.ensures.value)
     start.requires.k_bound.1
     there.is_there-arg-1.given.0
-    (holds_not there.is_there.ensures there.if-not-is_there.false)
+    (holds there.is_there.ensures there.if-not-is_there.false)
     c.take_at.ensures
 
 pub returns-then-not-is_there : goal.returns-then-not-is_there
 returns-then-not-is_there c =
     let asked = c in
     let start = asked in
-    sym (into-no-entry true _ _ _ _ _ (place_none 1 _ _ _ start.requires.k_bound.1 (fails-not asked.is_there.ensures c.if-not-is_there.true)))
+    sym (into-no-entry true _ _ _ _ _ (place_none 1 _ _ _ start.requires.k_bound.1 (fails asked.is_there.ensures c.if-not-is_there.true)))

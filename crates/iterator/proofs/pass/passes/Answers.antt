@@ -4,7 +4,7 @@ use Prim.Native.Nat.{◌-◌}
 use mathlib.Core.Path.{◌≡◌, sym, ap₂, ◌∙◌}
 use mathlib.Core.Bool.{Bool, ◌||◌}
 use native.Mathlib.Omega.{arith}
-use Rattle.words.proofs.Bools.{fails-not, holds_not}
+use Rattle.words.proofs.Bools.{fails, holds}
 use Rattle.proposer.specs.Passes.{moved_of}
 use Rattle.iterator.specs.Arrays.{state_in}
 use Rattle.iterator.proofs.PassesLaws.{making, makes, made-last, made_all}
@@ -21,7 +21,7 @@ returns-then-not-is_moved c =
         ∙ sym (moved-is start.args.t.now passed.pass.new.1.1.1.0 passed.pass.new.1.1.1.1.0) in
     let passed = c in
     let turn = passed in
-    let loop = turn in record { result_after = made-last loop.loop-made.invariant.0 (rw (← loop.pass_bound-bound.ensures) turn.loop-made-test.true) passed.pass.ensures.entries_after (fails-not moved c.if-not-is_moved.true); ready_2 = passed.pass.ensures.ready }
+    let loop = turn in record { result_after = made-last loop.loop-made.invariant.0 (rw (← loop.pass_bound-bound.ensures) turn.loop-made-test.true) passed.pass.ensures.entries_after (fails moved c.if-not-is_moved.true); ready_2 = passed.pass.ensures.ready }
 
 pub loop-made-preserved : goal.loop-made-preserved
 loop-made-preserved c =
@@ -34,7 +34,7 @@ loop-made-preserved c =
     let passed = c in
     let turn = passed in
     let loop = turn in (
-      makes loop.loop-made.invariant.0 (rw (← loop.pass_bound-bound.ensures) turn.loop-made-test.true) passed.pass.ensures.entries_after (holds_not moved c.if-not-is_moved.false),
+      makes loop.loop-made.invariant.0 (rw (← loop.pass_bound-bound.ensures) turn.loop-made-test.true) passed.pass.ensures.entries_after (holds moved c.if-not-is_moved.false),
       passed.pass.ensures.ready,
     )
 

@@ -14,8 +14,7 @@ unguarded-requires c =
     let here : let start = c in Slot start.args.t.now start.args.plan.now c.loop-i.i =
         slot_at c.requires.ready _ c.loop-i-test.true in
     let turn = c in
-    let pre = turn.requires in
-    record { ready = record { passes = pre.0.passes; planned = pre.0.planned; filed = record { elsewhere = pre.0.filed.elsewhere } }; m_bound = (pre.1, here.below) }
+    record { ready = record { passes = turn.requires.ready.passes; planned = turn.requires.ready.planned; filed = record { elsewhere = turn.requires.ready.filed.elsewhere } }; m_bound = (turn.requires.m_bound, here.below) }
 
 pub loop-i-preserved : goal.loop-i-preserved
 loop-i-preserved c =

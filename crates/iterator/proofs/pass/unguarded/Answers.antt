@@ -14,13 +14,11 @@ returns-then-disjoint c =
     let points = c in
     let taken = points in
     let start = taken in
-    let pre = start.requires in
     let s = state_in start.args.t.now start.args.rows.now start.args.entries.now in
     c.entry_into.ensures
     ∙ ap (λ (x : ℕ). entry_into true start.args.t.now start.args.ts.now s (x + start.args.m) start.args.q) points.number_at.ensures.value
-    ∙ unguarded-is pre.0 _ _ _ pre.1.0 pre.1.1 (holds taken.disjoint.ensures taken.if-disjoint.true)
+    ∙ unguarded-is start.requires.ready _ _ _ start.requires.m_bound.0 start.requires.m_bound.1 (holds taken.disjoint.ensures taken.if-disjoint.true)
 
 pub returns-else-disjoint : goal.returns-else-disjoint
 returns-else-disjoint c =
-    let pre = c.requires in
-    into-off _ _ _ _ _ ∙ unguarded-is pre.0 _ _ _ pre.1.0 pre.1.1 (fails c.disjoint.ensures c.if-disjoint.false)
+    into-off _ _ _ _ _ ∙ unguarded-is c.requires.ready _ _ _ c.requires.m_bound.0 c.requires.m_bound.1 (fails c.disjoint.ensures c.if-disjoint.false)

@@ -3,7 +3,7 @@
 use Prim.Native.Nat.{◌+◌, ◌<◌}
 use mathlib.Core.Path.{sym, ap, ◌∙◌}
 use native.Mathlib.Omega.{arith}
-use Rattle.words.proofs.Bools.{fails-not, holds_not}
+use Rattle.words.proofs.Bools.{fails, holds}
 use Rattle.table.specs.Layout.{sizes_of}
 use Rattle.proposer.specs.Widen.{place_in}
 use Rattle.proposer.specs.Passes.{State, leave, visit}
@@ -20,7 +20,7 @@ returns-then-not-is_there c =
     let start = asked in
     let t = start.args.t.now in
     let here : start.args.p < (sizes_of t).points + (sizes_of t).mutexes = omega (arith, start.requires.p_bound) in
-    sym (visit-unreached t start.args.ts.now (held_in start.args.plan.now) _ _ (place_none _ _ _ _ here (fails-not asked.is_there.ensures c.if-not-is_there.true)))
+    sym (visit-unreached t start.args.ts.now (held_in start.args.plan.now) _ _ (place_none _ _ _ _ here (fails asked.is_there.ensures c.if-not-is_there.true)))
 
 pub leave-requires : goal.leave-requires
 leave-requires c =
@@ -34,7 +34,7 @@ leave-requires c =
       (
         start.requires.p_bound,
         sym (place-there _ _ _ _ here) ∙ ap (λ (s : State). is_some (place_in s.rows start.args.p)) disturbed.disturb_all.ensures
-            ∙ disturb-keeps t start.args.ts.now (held_in start.args.plan.now) start.args.p _ (place-there _ _ _ _ here ∙ holds_not asked.is_there.ensures reached.if-not-is_there.false),
+            ∙ disturb-keeps t start.args.ts.now (held_in start.args.plan.now) start.args.p _ (place-there _ _ _ _ here ∙ holds asked.is_there.ensures reached.if-not-is_there.false),
       ),
     )
 

@@ -3,7 +3,7 @@
 use Prim.Native.Nat.{◌+◌, ◌≤◌}
 use native.Mathlib.Omega.{arith}
 use lib.ListN.{length, length-set}
-use Rattle.words.proofs.Bools.{holds, fails, holds_not, fails-not}
+use Rattle.words.proofs.Bools.{holds, fails}
 use Rattle.analysis.specs.Rows.{Row, row_of}
 use Rattle.iterator.proofs.StoreLaws.{rows_lie}
 use Rattle.iterator.proofs.TakenLaws.{taken-new, taken-held, taken-moved}
@@ -18,8 +18,8 @@ returns-then-not-is_there c =
     let test = branch in
     let found = test in
     let start = test in
-    taken-new _ _ start.args.ts.now _ _ row start.pre.0 start.pre.1 found.lows_from-a.ensures found.highs_from-b.ensures
-    (fails-not test.is_there.ensures branch.if-not-is_there.true) put.put.auto.0 put.put.ensures
+    taken-new _ _ start.args.ts.now _ _ row start.requires.room start.requires.k_lt_c found.lows_from-a.ensures found.highs_from-b.ensures
+    (fails test.is_there.ensures branch.if-not-is_there.true) put.put.auto.0 put.put.ensures
 
 pub returns-then-covers : goal.returns-then-covers
 returns-then-covers c =
@@ -30,8 +30,8 @@ returns-then-covers c =
     let test = branch in
     let found = test in
     let start = test in
-    taken-held _ _ start.args.ts.now _ _ row start.pre.0 start.pre.1 found.lows_from-a.ensures found.highs_from-b.ensures
-    (holds_not test.is_there.ensures branch.if-not-is_there.false) (holds covers.covers.ensures c.if-covers.true)
+    taken-held _ _ start.args.ts.now _ _ row start.requires.room start.requires.k_lt_c found.lows_from-a.ensures found.highs_from-b.ensures
+    (holds test.is_there.ensures branch.if-not-is_there.false) (holds covers.covers.ensures c.if-covers.true)
 
 pub returns : goal.returns
 returns c =
@@ -44,14 +44,14 @@ returns c =
     let test = branch in
     let found = test in
     let start = test in
-    taken-moved _ _ start.args.ts.now _ _ row start.pre.0 start.pre.1 found.lows_from-a.ensures found.highs_from-b.ensures
-    (holds_not test.is_there.ensures branch.if-not-is_there.false) (fails covers.covers.ensures way.if-covers.false)
+    taken-moved _ _ start.args.ts.now _ _ row start.requires.room start.requires.k_lt_c found.lows_from-a.ensures found.highs_from-b.ensures
+    (holds test.is_there.ensures branch.if-not-is_there.false) (fails covers.covers.ensures way.if-covers.false)
     widen.widen.auto.1.0 widen.widen.ensures
 
 pub put-requires : goal.put-requires
 put-requires c =
     let lies : let args = c.args in (c.lows_from-a.result + args.n ≤ c.highs_from-b.result) × (c.highs_from-b.result + args.n ≤ length args.ws.now) =
-        let pre = c.requires in rows_lie _ _ _ _ pre.0 pre.1 c.lows_from-a.ensures c.highs_from-b.ensures in
+        rows_lie _ _ _ _ c.requires.room c.requires.k_lt_c c.lows_from-a.ensures c.highs_from-b.ensures in
     lies
 
 pub slice_set_of-ws-then-not-is_there : goal.slice_set_of-ws-then-not-is_there
@@ -61,11 +61,11 @@ slice_set_of-ws-then-not-is_there c =
 pub covers-requires : goal.covers-requires
 covers-requires c =
     let lies : let args = c.args in (c.lows_from-a.result + args.n ≤ c.highs_from-b.result) × (c.highs_from-b.result + args.n ≤ length args.ws.now) =
-        let pre = c.requires in rows_lie _ _ _ _ pre.0 pre.1 c.lows_from-a.ensures c.highs_from-b.ensures in
+        rows_lie _ _ _ _ c.requires.room c.requires.k_lt_c c.lows_from-a.ensures c.highs_from-b.ensures in
     lies
 
 pub widen-requires : goal.widen-requires
 widen-requires c =
     let lies : let args = c.args in (c.lows_from-a.result + args.n ≤ c.highs_from-b.result) × (c.highs_from-b.result + args.n ≤ length args.ws.now) =
-        let pre = c.requires in rows_lie _ _ _ _ pre.0 pre.1 c.lows_from-a.ensures c.highs_from-b.ensures in
+        rows_lie _ _ _ _ c.requires.room c.requires.k_lt_c c.lows_from-a.ensures c.highs_from-b.ensures in
     lies

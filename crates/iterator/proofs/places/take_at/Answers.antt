@@ -8,7 +8,7 @@ use lib.ListN.{length}
 use lib.Signed.{le_z}
 use mir.Facts.{to_z-of_z}
 use Rattle.words.specs.Words.{word_of}
-use Rattle.words.proofs.Bools.{holds, fails, holds_not, fails-not}
+use Rattle.words.proofs.Bools.{holds, fails}
 use Rattle.words.proofs.Signed.{read_back}
 use Rattle.iterator.proofs.PlacesLaws.{holds-is, both-none}
 use Rattle.iterator.proofs.StoreLaws.{rows_apart, rows-room, rows_lie}
@@ -19,7 +19,7 @@ pub returns-then-not-is_there : goal.returns-then-not-is_there
 returns-then-not-is_there c =
     let test = c in
     let start = test in
-    sym (both-none _ _ start.args.ts.now _ _ start.requires.k_lt_c.0 _ start.args.v (fails-not test.is_there.ensures c.if-not-is_there.true))
+    sym (both-none _ _ start.args.ts.now _ _ start.requires.k_lt_c.0 _ start.args.v (fails test.is_there.ensures c.if-not-is_there.true))
 
 pub returns-then-holds : goal.returns-then-holds
 returns-then-holds c =
@@ -35,7 +35,7 @@ returns-then-holds c =
     let found = c in
     let branch = found in
     let start = found in
-    held_at _ _ _ _ _ _ _ _ start.pre.0 start.pre.1.0 start.pre.1.1 (holds_not branch.is_there.ensures branch.if-not-is_there.false)
+    held_at _ _ _ _ _ _ _ _ start.requires.room start.requires.k_lt_c.0 start.requires.k_lt_c.1 (holds branch.is_there.ensures branch.if-not-is_there.false)
     found.lows_from.ensures found.highs_from.ensures (holds tested c.if-holds.true)
 
 pub returns : goal.returns
@@ -57,48 +57,47 @@ returns c =
     let fits = start.fits in
     let low = to_z-of_z fits.low in
     let high = to_z-of_z fits.high in
-    moved_at _ _ _ _ _ _ _ _ start.pre.0 start.pre.1.0 start.pre.1.1 (holds_not branch.is_there.ensures branch.if-not-is_there.false)
+    moved_at _ _ _ _ _ _ _ _ start.requires.room start.requires.k_lt_c.0 start.requires.k_lt_c.1 (holds branch.is_there.ensures branch.if-not-is_there.false)
     found.lows_from.ensures found.highs_from.ensures (fails tested way.if-holds.false)
     (rw (low, high) at move.move_ends.ensures)
 
 pub overflow_add-i : goal.overflow_add-i
 overflow_add-i c =
     let start = c in
-    let pre = start.requires in
-    omega (arith, c.lows_from.ensures, rows_apart _ _ _ _ pre.0 pre.1.0, rows-room _ _ _ _ pre.0 pre.1.0, start.well-formed.1.0.0)
+    omega (arith, c.lows_from.ensures, rows_apart _ _ _ _ start.requires.room start.requires.k_lt_c.0, rows-room _ _ _ _ start.requires.room start.requires.k_lt_c.0, start.well-formed.1.0.0)
 
 pub overflow_add-j : goal.overflow_add-j
 overflow_add-j c =
     let lies : let args = c.args in (c.lows_from.result + args.n ≤ c.highs_from.result) × (c.highs_from.result + args.n ≤ length args.ws.now) =
-        let start = c in rows_lie _ _ _ _ start.pre.0 start.pre.1.0 c.lows_from.ensures c.highs_from.ensures in
+        let start = c in rows_lie _ _ _ _ start.requires.room start.requires.k_lt_c.0 c.lows_from.ensures c.highs_from.ensures in
     omega (arith, lies, c.well-formed.1.0.0)
 
 pub offset_bounds-ws-i : goal.offset_bounds-ws-i
 offset_bounds-ws-i c =
     let lies : let args = c.args in (c.lows_from.result + args.n ≤ c.highs_from.result) × (c.highs_from.result + args.n ≤ length args.ws.now) =
-        let start = c in rows_lie _ _ _ _ start.pre.0 start.pre.1.0 c.lows_from.ensures c.highs_from.ensures in
+        let start = c in rows_lie _ _ _ _ start.requires.room start.requires.k_lt_c.0 c.lows_from.ensures c.highs_from.ensures in
     omega (arith, lies, c.well-formed.1.0.1)
 
 pub slice_copy_out-holds : goal.slice_copy_out-holds
 slice_copy_out-holds c =
     let lies : let args = c.args in (c.lows_from.result + args.n ≤ c.highs_from.result) × (c.highs_from.result + args.n ≤ length args.ws.now) =
-        let start = c in rows_lie _ _ _ _ start.pre.0 start.pre.1.0 c.lows_from.ensures c.highs_from.ensures in
+        let start = c in rows_lie _ _ _ _ start.requires.room start.requires.k_lt_c.0 c.lows_from.ensures c.highs_from.ensures in
     omega (arith, lies)
 
 pub offset_bounds-ws-j : goal.offset_bounds-ws-j
 offset_bounds-ws-j c =
     let lies : let args = c.args in (c.lows_from.result + args.n ≤ c.highs_from.result) × (c.highs_from.result + args.n ≤ length args.ws.now) =
-        let start = c in rows_lie _ _ _ _ start.pre.0 start.pre.1.0 c.lows_from.ensures c.highs_from.ensures in
+        let start = c in rows_lie _ _ _ _ start.requires.room start.requires.k_lt_c.0 c.lows_from.ensures c.highs_from.ensures in
     omega (arith, lies, c.well-formed.1.0.1)
 
 pub slice_copy_out-holds-2 : goal.slice_copy_out-holds-2
 slice_copy_out-holds-2 c =
     let lies : let args = c.args in (c.lows_from.result + args.n ≤ c.highs_from.result) × (c.highs_from.result + args.n ≤ length args.ws.now) =
-        let start = c in rows_lie _ _ _ _ start.pre.0 start.pre.1.0 c.lows_from.ensures c.highs_from.ensures in
+        let start = c in rows_lie _ _ _ _ start.requires.room start.requires.k_lt_c.0 c.lows_from.ensures c.highs_from.ensures in
     omega (arith, lies)
 
 pub move_ends-requires : goal.move_ends-requires
 move_ends-requires c =
     let lies : let args = c.args in (c.lows_from.result + args.n ≤ c.highs_from.result) × (c.highs_from.result + args.n ≤ length args.ws.now) =
-        let start = c in rows_lie _ _ _ _ start.pre.0 start.pre.1.0 c.lows_from.ensures c.highs_from.ensures in
+        let start = c in rows_lie _ _ _ _ start.requires.room start.requires.k_lt_c.0 c.lows_from.ensures c.highs_from.ensures in
     let found = c in omega (arith, lies)

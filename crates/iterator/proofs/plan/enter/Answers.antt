@@ -1,7 +1,7 @@
 -- `iterator::plan::enter` meets its contract: three words are noted, and an assignment is filed under its head. Assumes nothing.
 use mathlib.Core.Path.{◌≡◌}
 use native.Mathlib.Omega.{arith}
-use Rattle.words.proofs.Bools.{fails-not, holds_not}
+use Rattle.words.proofs.Bools.{fails, holds}
 use Rattle.table.specs.Layout.{points_of}
 use Rattle.table.specs.Decode.{point_of}
 use Rattle.proposer.specs.Walk.{mark_count, held_in}
@@ -25,7 +25,7 @@ returns-then-not-is_assign c =
     let t = a.t.now in
     rw (held.held_of-s.ensures.value, task.task_of-u.ensures, variable.written-v.ensures, stands)
     (entered-other t (held_in t (marks_in (mark_count t) a.marks.now)) (book_of a.plan.now a.index.now a.count) a.p
-    (rw stands at (fails-not flag.is_assign.ensures c.if-not-is_assign.true)))
+    (rw stands at (fails flag.is_assign.ensures c.if-not-is_assign.true)))
 
 pub head_of-requires : goal.head_of-requires
 head_of-requires c =
@@ -45,8 +45,7 @@ head_of-requires c =
 pub file-requires : goal.file-requires
 file-requires c =
     let start = c in
-    let passes = start.requires.passes in
-    record { passes = omega (arith, start.requires.p_bound.0, passes.points.high); p_bound = omega (arith, c.head_of.ensures.upper_bound, heads-few start.args.t.now passes); p_bound_2 = start.requires.p_bound.1 }
+    record { passes = omega (arith, start.requires.p_bound.0, start.requires.passes.points.high); p_bound = omega (arith, c.head_of.ensures.upper_bound, heads-few start.args.t.now start.requires.passes); p_bound_2 = start.requires.p_bound.1 }
 
 pub returns : goal.returns
 returns c =
@@ -63,5 +62,5 @@ returns c =
     let t = a.t.now in
     entered-assign t (held_in t (marks_in (mark_count t) a.marks.now)) (book_of a.plan.now a.index.now a.count) a.p
     (book_of c.file.new.0 c.file.new.1.0 c.file.result)
-    (rw stands at (holds_not flag.is_assign.ensures test.if-not-is_assign.false))
+    (rw stands at (holds flag.is_assign.ensures test.if-not-is_assign.false))
     (rw (head.head_of.ensures.value, held.held_of-s.ensures.value, task.task_of-u.ensures, variable.written-v.ensures, stands) at c.file.ensures)

@@ -42,11 +42,11 @@ loop-p-preserved c =
     let t = start.args.t.now in
     let marks = marks_in (mark_count t) start.args.marks.now in
     let p = loop.loop-p.p in
-    let passes = start.requires.passes in (
+    (
       rw c.enter-count.ensures
           (made_more t (held_in t marks) p (book_of loop.loop-p.plan loop.loop-p.index loop.loop-p.count) loop.loop-p.invariant.0
-          (omega (arith, is-point, passes.points.high)) is-point
-          (head-below t (held_in t marks) passes p is-point (held_below t marks p)) (heads-few t passes)),
+          (omega (arith, is-point, start.requires.passes.points.high)) is-point
+          (head-below t (held_in t marks) start.requires.passes p is-point (held_below t marks p)) (heads-few t start.requires.passes)),
       omega (arith, turn.loop-p-test.true),
     )
 
@@ -57,15 +57,14 @@ returns c =
     let t = start.args.t.now in
     let marks = marks_in (mark_count t) start.args.marks.now in
     let h = held_in t marks in
-    let passes = start.requires.passes in
     let past : (p : ℕ) → (sizes_of t).points ≤ p → h p ≡ 0 = λ p l. held-past t marks p (marks-length (mark_count t) start.args.marks.now) l in
     let b = book_of loop.loop-p.plan loop.loop-p.index loop.loop-p.count in
     let all : loop.loop-p.p ≡ (sizes_of t).points = omega (arith, loop.loop-p.invariant.1, c.loop-p-test.false, loop.number_at-points.ensures.value) in
     let made = loop.loop-p.invariant.0 in (
-      made_held t h passes (held_below t marks) past loop.loop-p.p b made all,
+      made_held t h start.requires.passes (held_below t marks) past loop.loop-p.p b made all,
       (
-        made-planned t h passes (held_below t marks) past loop.loop-p.p b made all,
-        made-indexed t h passes (held_below t marks) past loop.loop-p.p b made all,
+        made-planned t h start.requires.passes (held_below t marks) past loop.loop-p.p b made all,
+        made-indexed t h start.requires.passes (held_below t marks) past loop.loop-p.p b made all,
       ),
     )
 

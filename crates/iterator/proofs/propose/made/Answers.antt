@@ -7,7 +7,7 @@ passes-count-requires c =
     let begun = c in
     let planned = begun in
     let start = planned in
-    record { ready = start-ready _ _ _ begun.no_entries-entries.ensures _ start.requires.passes planned.plan_for.ensures.planned.0; ts_len_bound = start.requires.ts_len_bound.0 }
+    record { ready = start-ready _ _ _ begun.no_entries-entries.ensures _ start.requires.passes planned.plan_for.ensures.planned; ts_len_bound = start.requires.ts_len_bound }
 
 pub returns : goal.returns
 returns c =
@@ -17,7 +17,6 @@ returns c =
     let none = begun in
     let planned = none in
     let start = planned in
-    let held = marks-held _ _ _ start.requires.ts_len_bound.1.0 planned.plan_for.ensures.by_index in
+    let held = marks-held _ _ _ start.requires.marks_value planned.plan_for.ensures.by_index in
     let first = start_is _ _ _ none.no_entries-entries.ensures begun.begin.ensures in
-    let e = wrote.write-words.ensures in
-    record { value = result-is _ _ _ held _ _ first _ ended.passes-count.ensures.result_after _ e.0; out_after = buffer-is _ _ _ held _ _ first _ ended.passes-count.ensures.result_after _ _ _ e.0 e.1 }
+    record { value = result-is _ _ _ held _ _ first _ ended.passes-count.ensures.result_after _ wrote.write-words.ensures.value; out_after = buffer-is _ _ _ held _ _ first _ ended.passes-count.ensures.result_after _ _ _ wrote.write-words.ensures.value wrote.write-words.ensures.out_after }

@@ -17,25 +17,24 @@ use Rattle.iterator.proofs.propose.propose.Goals as goal
 pub returns-in-Broken : goal.returns-in-Broken
 unfolding propose_stage
 returns-in-Broken c =
-    let told = c.enum_told-1.given.1 in
-    refusal-answers _ _ _ _ _ c.refused.ensures told (stop _ told c.validate-stage.ensures.value)
+    refusal-answers _ _ _ _ _ c.refused.ensures c.in-Broken.is (stop _ c.in-Broken.is c.validate-stage.ensures.value)
 
 pub returns-in-At : goal.returns-in-At
 unfolding propose_stage
 returns-in-At c =
     let passed : validate_of c.args.table.now ≡ Passed =
-        sym c.validate-stage.ensures.value ∙ c.enum_told-in_default-1.given.1 in
+        sym c.validate-stage.ensures.value ∙ c.in_default.is in
     let found = c in
     let falls = found in
-    refusal-answers _ _ _ _ _ c.refused-in-At.ensures refl (go passed (halt _ (sym falls.falls.ensures ∙ found.i-1.given.1)))
+    refusal-answers _ _ _ _ _ c.refused-in-At.ensures refl (go passed (halt _ (sym falls.falls.ensures ∙ found.in-At.is)))
 
 pub returns-then-proposal-need : goal.returns-then-proposal-need
 unfolding propose_stage
 returns-then-proposal-need c =
     let passed : validate_of c.args.table.now ≡ Passed =
-        sym c.validate-stage.ensures.value ∙ c.enum_told-in_default-1.given.1 in
+        sym c.validate-stage.ensures.value ∙ c.in_default.is in
     let rising : let ts = c.args.thresholds.now in first_bad (rule19 ts) (length ts) ≡ Nothing =
-        sym c.falls.ensures ∙ c.enum_told-in_default-falls-1.given.1 in
+        sym c.falls.ensures ∙ c.in_default-falls.is in
     let need = c in
     let told = need in
     let short = lt-leb _ _ (rw need.words_needed-need.ensures at c.if-proposal-need.true) in
@@ -46,9 +45,9 @@ pub returns-in-At-joined : goal.returns-in-At-joined
 unfolding propose_stage
 returns-in-At-joined c =
     let passed : validate_of c.args.table.now ≡ Passed =
-        sym c.validate-stage.ensures.value ∙ c.enum_told-in_default-1.given.1 in
+        sym c.validate-stage.ensures.value ∙ c.in_default.is in
     let rising : let ts = c.args.thresholds.now in first_bad (rule19 ts) (length ts) ≡ Nothing =
-        sym c.falls.ensures ∙ c.enum_told-in_default-falls-1.given.1 in
+        sym c.falls.ensures ∙ c.in_default-falls.is in
     let ample : let a = c.args in words_needed a.table.now ≤ length a.proposal.now =
         rw (← c.words_needed-need.ensures) c.if-proposal-need.false in
     let found = c in
@@ -56,34 +55,34 @@ returns-in-At-joined c =
     let walk = joined in
     let room = walk in
     let told = room in
-    let join = marks-refuse _ _ _ _ walk.walk.ensures joined.joined.ensures ∙ found.p-1.given.1 in
+    let join = marks-refuse _ _ _ _ walk.walk.ensures joined.joined.ensures ∙ found.in-At-joined.is in
     refusal-answers _ _ _ _ _ c.refused-in-At-joined.ensures refl
     (go passed (pass 19 rising (pass-if 20 _ (le-leb _ _ ample) (halt _ join))))
 
 pub words_needed-need-requires : goal.words_needed-need-requires
 words_needed-need-requires c =
     let passed : validate_of c.args.table.now ≡ Passed =
-        sym c.validate-stage.ensures.value ∙ c.enum_told-in_default-1.given.1 in
+        sym c.validate-stage.ensures.value ∙ c.in_default.is in
     passes _ passed
 
 pub walk-requires : goal.walk-requires
 walk-requires c =
     let passed : validate_of c.args.table.now ≡ Passed =
-        sym c.validate-stage.ensures.value ∙ c.enum_told-in_default-1.given.1 in
+        sym c.validate-stage.ensures.value ∙ c.in_default.is in
     record { passes = passes _ passed; marks_value = c.no_marks-marks.ensures }
 
 pub joined-requires : goal.joined-requires
 joined-requires c =
     let passed : validate_of c.args.table.now ≡ Passed =
-        sym c.validate-stage.ensures.value ∙ c.enum_told-in_default-1.given.1 in
+        sym c.validate-stage.ensures.value ∙ c.in_default.is in
     passes _ passed
 
 pub made-requires : goal.made-requires
 made-requires c =
     let passed : validate_of c.args.table.now ≡ Passed =
-        sym c.validate-stage.ensures.value ∙ c.enum_told-in_default-1.given.1 in
+        sym c.validate-stage.ensures.value ∙ c.in_default.is in
     let rising : let ts = c.args.thresholds.now in first_bad (rule19 ts) (length ts) ≡ Nothing =
-        sym c.falls.ensures ∙ c.enum_told-in_default-falls-1.given.1 in
+        sym c.falls.ensures ∙ c.in_default-falls.is in
     let ample : let a = c.args in words_needed a.table.now ≤ length a.proposal.now =
         rw (← c.words_needed-need.ensures) c.if-proposal-need.false in
     let joined = c in
@@ -96,9 +95,9 @@ pub returns : goal.returns
 unfolding propose_stage
 returns c =
     let passed : validate_of c.args.table.now ≡ Passed =
-        sym c.validate-stage.ensures.value ∙ c.enum_told-in_default-1.given.1 in
+        sym c.validate-stage.ensures.value ∙ c.in_default.is in
     let rising : let ts = c.args.thresholds.now in first_bad (rule19 ts) (length ts) ≡ Nothing =
-        sym c.falls.ensures ∙ c.enum_told-in_default-falls-1.given.1 in
+        sym c.falls.ensures ∙ c.in_default-falls.is in
     let ample : let a = c.args in words_needed a.table.now ≤ length a.proposal.now =
         rw (← c.words_needed-need.ensures) c.if-proposal-need.false in
     let made = c in
@@ -107,7 +106,7 @@ returns c =
     let walk = joined in
     let room = walk in
     let told = room in
-    let join = marks-refuse _ _ _ _ walk.walk.ensures joined.joined.ensures ∙ Told-none.enum_told-in_default-joined-1.given.1 in
+    let join = marks-refuse _ _ _ _ walk.walk.ensures joined.joined.ensures ∙ Told-none.in_default-joined.is in
     proposal-answers _ _ _ _ _
     (go passed (pass 19 rising (pass-if 20 _ (le-leb _ _ ample) (pass 18 join refl))))
     made.made.ensures.value

@@ -2,7 +2,7 @@
 use mathlib.Core.Path.{◌≡◌, sym, ◌∙◌}
 use native.Mathlib.Omega.{arith}
 use borrow.Author.Rules.{rules}
-use Rattle.words.proofs.Bools.{holds, fails, fails-not, holds_not}
+use Rattle.words.proofs.Bools.{holds, fails}
 use Rattle.table.specs.Layout.{points_of}
 use Rattle.table.specs.Decode.{point_of}
 use Rattle.iterator.proofs.GoLaws.{end-gone, assign-asks, assign-gone, test-asks, test-gone}
@@ -15,7 +15,7 @@ mark-requires c =
         sym (rw c.point_words.ensures at c.point_at-x.ensures) in
     let x = c in
     let at = x in
-    record { marks_len = search rules; n_bound = assign-asks at.requires (read ∙ x.x-1.given.1) }
+    record { marks_len = search rules; n_bound = assign-asks at.requires (read ∙ x.in-Assign.is) }
 
 pub mark-first-requires : goal.mark-first-requires
 mark-first-requires c =
@@ -23,7 +23,7 @@ mark-first-requires c =
         sym (rw c.point_words.ensures at c.point_at-x.ensures) in
     let x = c in
     let at = x in
-    record { marks_len = search rules; n_bound = (test-asks at.requires (read ∙ x.x-in-Test-1.given.1)).0 }
+    record { marks_len = search rules; n_bound = (test-asks at.requires (read ∙ x.in-Test.is)).0 }
 
 pub mark-requires-in-Test : goal.mark-requires-in-Test
 mark-requires-in-Test c =
@@ -31,14 +31,14 @@ mark-requires-in-Test c =
         sym (rw c.point_words.ensures at c.point_at-x.ensures) in
     let x = c in
     let at = x in
-    record { marks_len = search rules; n_bound = (test-asks at.requires (read ∙ x.x-in-Test-1.given.1)).1 }
+    record { marks_len = search rules; n_bound = (test-asks at.requires (read ∙ x.in-Test.is)).1 }
 
 pub overflow_shl-m : goal.overflow_shl-m
 overflow_shl-m c =
     let read : let a = c.args in point_of (points_of a.t.now) a.p ≡ c.point_at-x.result =
         sym (rw c.point_words.ensures at c.point_at-x.ensures) in
     let at = c in
-    omega (arith, lock-few at.requires (read ∙ c.x-in-Lock-1.given.1))
+    omega (arith, lock-few at.requires (read ∙ c.in-Lock.is))
 
 pub returns-then-not-disjoint : goal.returns-then-not-disjoint
 returns-then-not-disjoint c =
@@ -46,7 +46,7 @@ returns-then-not-disjoint c =
         sym (rw c.point_words.ensures at c.point_at-x.ensures) in
     let x = c in
     let at = x in
-    lock-held at.requires (read ∙ x.x-in-Lock-1.given.1) _ (fails-not c.disjoint.ensures c.if-not-disjoint.true)
+    lock-held at.requires (read ∙ x.in-Lock.is) _ (fails c.disjoint.ensures c.if-not-disjoint.true)
 
 pub overflow_shl-m-in-Lock : goal.overflow_shl-m-in-Lock
 overflow_shl-m-in-Lock c =
@@ -54,7 +54,7 @@ overflow_shl-m-in-Lock c =
         sym (rw c.point_words.ensures at c.point_at-x.ensures) in
     let x = c in
     let at = x in
-    omega (arith, lock-few at.requires (read ∙ x.x-in-Lock-1.given.1))
+    omega (arith, lock-few at.requires (read ∙ x.in-Lock.is))
 
 pub overflow_add-s : goal.overflow_add-s
 overflow_add-s c =
@@ -62,7 +62,7 @@ overflow_add-s c =
         sym (rw c.point_words.ensures at c.point_at-x.ensures) in
     let x = c in
     let at = x in
-    let asks = lock-asks at.requires (read ∙ x.x-in-Lock-1.given.1) (holds_not c.disjoint.ensures c.if-not-disjoint.false) in
+    let asks = lock-asks at.requires (read ∙ x.in-Lock.is) (holds c.disjoint.ensures c.if-not-disjoint.false) in
     omega (arith, asks.0, asks.2)
 
 pub mark-requires-in-Lock : goal.mark-requires-in-Lock
@@ -71,14 +71,14 @@ mark-requires-in-Lock c =
         sym (rw c.point_words.ensures at c.point_at-x.ensures) in
     let x = c in
     let at = x in
-    record { marks_len = search rules; n_bound = lock-asks at.requires (read ∙ x.x-in-Lock-1.given.1) (holds_not c.disjoint.ensures c.if-not-disjoint.false) }
+    record { marks_len = search rules; n_bound = lock-asks at.requires (read ∙ x.in-Lock.is) (holds c.disjoint.ensures c.if-not-disjoint.false) }
 
 pub overflow_shl-m-in-Unlock : goal.overflow_shl-m-in-Unlock
 overflow_shl-m-in-Unlock c =
     let read : let a = c.args in point_of (points_of a.t.now) a.p ≡ c.point_at-x.result =
         sym (rw c.point_words.ensures at c.point_at-x.ensures) in
     let at = c in
-    omega (arith, unlock-few at.requires (read ∙ c.x-in-Unlock-1.given.1))
+    omega (arith, unlock-few at.requires (read ∙ c.in-Unlock.is))
 
 pub returns-then-disjoint : goal.returns-then-disjoint
 returns-then-disjoint c =
@@ -86,7 +86,7 @@ returns-then-disjoint c =
         sym (rw c.point_words.ensures at c.point_at-x.ensures) in
     let x = c in
     let at = x in
-    unlock-free at.requires (read ∙ x.x-in-Unlock-1.given.1) _ (holds c.disjoint-in-Unlock.ensures c.if-disjoint.true)
+    unlock-free at.requires (read ∙ x.in-Unlock.is) _ (holds c.disjoint-in-Unlock.ensures c.if-disjoint.true)
 
 pub overflow_shl-m-in-Unlock-2 : goal.overflow_shl-m-in-Unlock-2
 overflow_shl-m-in-Unlock-2 c =
@@ -94,7 +94,7 @@ overflow_shl-m-in-Unlock-2 c =
         sym (rw c.point_words.ensures at c.point_at-x.ensures) in
     let x = c in
     let at = x in
-    omega (arith, unlock-few at.requires (read ∙ x.x-in-Unlock-1.given.1))
+    omega (arith, unlock-few at.requires (read ∙ x.in-Unlock.is))
 
 pub overflow_sub-s : goal.overflow_sub-s
 overflow_sub-s c =
@@ -102,7 +102,7 @@ overflow_sub-s c =
         sym (rw c.point_words.ensures at c.point_at-x.ensures) in
     let x = c in
     let at = x in
-    unlock-le at.requires (read ∙ x.x-in-Unlock-1.given.1) (fails c.disjoint-in-Unlock.ensures c.if-disjoint.false)
+    unlock-le at.requires (read ∙ x.in-Unlock.is) (fails c.disjoint-in-Unlock.ensures c.if-disjoint.false)
 
 pub mark-requires-in-Unlock : goal.mark-requires-in-Unlock
 mark-requires-in-Unlock c =
@@ -110,13 +110,13 @@ mark-requires-in-Unlock c =
         sym (rw c.point_words.ensures at c.point_at-x.ensures) in
     let x = c in
     let at = x in
-    record { marks_len = search rules; n_bound = unlock-asks at.requires (read ∙ x.x-in-Unlock-1.given.1) (fails c.disjoint-in-Unlock.ensures c.if-disjoint.false) }
+    record { marks_len = search rules; n_bound = unlock-asks at.requires (read ∙ x.in-Unlock.is) (fails c.disjoint-in-Unlock.ensures c.if-disjoint.false) }
 
 pub returns-in-End : goal.returns-in-End
 returns-in-End c =
     let read : let a = c.args in point_of (points_of a.t.now) a.p ≡ c.point_at-x.result =
         sym (rw c.point_words.ensures at c.point_at-x.ensures) in
-    let at = c in end-gone at.requires _ (read ∙ c.enum_told-1.given.1)
+    let at = c in end-gone at.requires _ (read ∙ c.in-End.is)
 
 pub returns-in-Assign : goal.returns-in-Assign
 returns-in-Assign c =
@@ -124,7 +124,7 @@ returns-in-Assign c =
         sym (rw c.point_words.ensures at c.point_at-x.ensures) in
     let x = c in
     let at = x in
-    assign-gone at.requires (read ∙ x.x-1.given.1) c.mark.ensures
+    assign-gone at.requires (read ∙ x.in-Assign.is) c.mark.ensures
 
 pub returns-in-Test : goal.returns-in-Test
 returns-in-Test c =
@@ -133,7 +133,7 @@ returns-in-Test c =
     let first = c in
     let x = first in
     let at = x in
-    test-gone at.requires (read ∙ x.x-in-Test-1.given.1) first.mark-first.ensures c.mark-in-Test.ensures
+    test-gone at.requires (read ∙ x.in-Test.is) first.mark-first.ensures c.mark-in-Test.ensures
 
 pub returns-else-not-disjoint : goal.returns-else-not-disjoint
 returns-else-not-disjoint c =
@@ -142,7 +142,7 @@ returns-else-not-disjoint c =
     let free = c in
     let x = free in
     let at = x in
-    lock-gone at.requires (read ∙ x.x-in-Lock-1.given.1) (holds_not free.disjoint.ensures free.if-not-disjoint.false) c.mark-in-Lock.ensures
+    lock-gone at.requires (read ∙ x.in-Lock.is) (holds free.disjoint.ensures free.if-not-disjoint.false) c.mark-in-Lock.ensures
 
 pub returns-else-disjoint : goal.returns-else-disjoint
 returns-else-disjoint c =
@@ -151,4 +151,4 @@ returns-else-disjoint c =
     let held = c in
     let x = held in
     let at = x in
-    unlock-gone at.requires (read ∙ x.x-in-Unlock-1.given.1) (fails held.disjoint-in-Unlock.ensures held.if-disjoint.false) c.mark-in-Unlock.ensures
+    unlock-gone at.requires (read ∙ x.in-Unlock.is) (fails held.disjoint-in-Unlock.ensures held.if-disjoint.false) c.mark-in-Unlock.ensures

@@ -1,7 +1,6 @@
 -- `iterator::walk::walk` meets its contract: after a round that makes no new mark, further rounds would make none. Assumes nothing.
 use Prim.Native.Nat.{◌-◌}
 use native.Mathlib.Omega.{arith}
-use borrow.Author.Tests.{not-true}
 use Rattle.iterator.proofs.FoldLaws.{fold-from, fold_next}
 use Rattle.iterator.proofs.RoundLaws.{last-round, all-rounds}
 use Rattle.iterator.proofs.walk.walk.Goals as goal
@@ -21,7 +20,7 @@ mark_count-count-requires c =
 
 pub loop-k-init : goal.loop-k-init
 loop-k-init c =
-    fold-from c.first_Marks.ensures
+    fold-from c.first_marks.ensures
 
 pub round-requires : goal.round-requires
 round-requires c =
@@ -29,7 +28,7 @@ round-requires c =
 
 pub returns-then-not-round : goal.returns-then-not-round
 returns-then-not-round c =
-    last-round _ c.loop-k.invariant c.round.ensures (not-true _ c.if-not-round.true)
+    last-round _ c.loop-k.invariant c.round.ensures c.if-not-round.true
 
 pub overflow_add-k : goal.overflow_add-k
 overflow_add-k c =

@@ -6,28 +6,27 @@ use Rattle.iterator.proofs.GoLaws.{set-pos, mark-from, walk-marked, walk-unmarke
 use Rattle.iterator.proofs.walk.walk_on.Goals as goal
 
 pub bounds-marks-i : goal.bounds-marks-i
-bounds-marks-i c = omega (arith, c.requires.n_value.1, marks-few c.args.t.now c.requires.passes)
+bounds-marks-i c = omega (arith, c.requires.i_bound, marks-few c.args.t.now c.requires.passes)
 
 pub go_on-requires : goal.go_on-requires
-go_on-requires c = let pre = c.requires in mark-from _ _ _ pre.1.0 pre.1.1 pre.0
+go_on-requires c = mark-from _ _ _ c.requires.n_value c.requires.i_bound c.requires.passes
 
 pub returns-then-marks-i-eq1 : goal.returns-then-marks-i-eq1
 returns-then-marks-i-eq1 c =
     let marked = c in
-    let pre = marked.requires in
-    walk-marked _ _ _ pre.1.0 pre.1.1 _ marked.if-marks-i-eq1.true c.go_on.ensures
+    walk-marked _ _ _ marked.requires.n_value marked.requires.i_bound _ marked.if-marks-i-eq1.true c.go_on.ensures
 
 pub returns : goal.returns
-returns c = let pre = c.requires in walk-unmarked _ _ _ pre.1.0 pre.1.1 _ c.if-marks-i-eq1.false
+returns c = walk-unmarked _ _ _ c.requires.n_value c.requires.i_bound _ c.if-marks-i-eq1.false
 
 pub nonzero_div-i : goal.nonzero_div-i
 nonzero_div-i c =
     let some-sets : 0 < c.args.n =
-        set-pos c.args.t.now _ c.requires.n_value.0 in
+        set-pos c.args.t.now _ c.requires.n_value in
     some-sets
 
 pub nonzero_rem-i : goal.nonzero_rem-i
 nonzero_rem-i c =
     let some-sets : 0 < c.args.n =
-        set-pos c.args.t.now _ c.requires.n_value.0 in
+        set-pos c.args.t.now _ c.requires.n_value in
     some-sets

@@ -13,9 +13,8 @@ pub note-count-requires : goal.note-count-requires
 note-count-requires c =
     let below = c.loop-c-test.true in
     let loop = c in
-    let pre = loop.requires in
     let p = loop.loop-c.invariant in
-    record { c_bound = (omega (arith, pre.0), pre.0.1 loop.loop-c.c below); c_bound_2 = omega (arith, turn-room p below, kept p, pre.1) }
+    record { c_bound = (omega (arith, loop.requires.n_bound), loop.requires.n_bound.1 loop.loop-c.c below); c_bound_2 = omega (arith, turn-room p below, kept p, loop.requires.heads_len) }
 
 pub loop-c-preserved : goal.loop-c-preserved
 loop-c-preserved c = let inside = c in turn inside.loop-c.invariant inside.loop-c-test.true c.note-count.ensures

@@ -2,7 +2,6 @@
 use Prim.Native.Nat.{◌<◌}
 use mathlib.Core.Path.{◌≡◌, sym, ◌∙◌}
 use native.Mathlib.Omega.{arith}
-use borrow.Author.Tests.{not-true, not-false}
 use lib.ListN.{get_or}
 use mir.Syntax.{w32}
 use mir.ValLaws.{to_z_pos}
@@ -13,7 +12,7 @@ use Rattle.iterator.proofs.write.held_word.Goals as goal
 
 pub returns-then-not-is_there : goal.returns-then-not-is_there
 unfolding held_if
-returns-then-not-is_there c = rw (sym c.is_there.ensures ∙ not-true _ c.if-not-is_there.true)
+returns-then-not-is_there c = rw (sym c.is_there.ensures ∙ c.if-not-is_there.true)
 
 pub returns : goal.returns
 unfolding held_if
@@ -23,7 +22,7 @@ returns c =
     let set-small : let a = c.args in get_or a.plan.now a.p 0 < 256 =
         omega (arith, set_is, c.requires.1) in
     let other = c in
-    rw (sym other.is_there.ensures ∙ not-false _ other.if-not-is_there.false, set_is) (to_z_pos w32 _ (omega (arith, set-small)))
+    rw (sym other.is_there.ensures ∙ other.if-not-is_there.false, set_is) (to_z_pos w32 _ (omega (arith, set-small)))
 
 pub overflow_cast-result : goal.overflow_cast-result
 overflow_cast-result c =

@@ -2,7 +2,6 @@
 use mathlib.Core.Path.{◌≡◌, sym, ◌∙◌}
 use mathlib.Core.Bool.{true}
 use native.Mathlib.Omega.{arith}
-use borrow.Author.Tests.{not-true, not-false}
 use Rattle.proposer.specs.Fold.{those_if}
 use Rattle.iterator.specs.Write.{filled_by, is_filled}
 use Rattle.iterator.proofs.PutLaws.{puts_none, puts_one}
@@ -18,7 +17,7 @@ unfolding those_if
 returns-then-not-is_there c =
     let there : let a = c.args in is_filled a.index.now a.entries.now a.c ≡ c.is_there.result =
         filled_at _ _ c.if-slot-eq0.false ∙ sym c.is_there.ensures in
-    rw (there ∙ not-true _ c.if-not-is_there.true) (puts_none _ _)
+    rw (there ∙ c.if-not-is_there.true) (puts_none _ _)
 
 pub bounds-heads-count : goal.bounds-heads-count
 unfolding those_if
@@ -26,7 +25,7 @@ bounds-heads-count c =
     let there : let a = c.args in is_filled a.index.now a.entries.now a.c ≡ c.is_there.result =
         filled_at _ _ c.if-slot-eq0.false ∙ sym c.is_there.ensures in
     let filled : let a = c.args in is_filled a.index.now a.entries.now a.c ≡ true =
-        there ∙ not-false _ c.if-not-is_there.false in
+        there ∙ c.if-not-is_there.false in
     let room = rw filled at c.requires.c_bound_2 in omega arith
 
 pub returns : goal.returns
@@ -35,5 +34,5 @@ returns c =
     let there : let a = c.args in is_filled a.index.now a.entries.now a.c ≡ c.is_there.result =
         filled_at _ _ c.if-slot-eq0.false ∙ sym c.is_there.ensures in
     let filled : let a = c.args in is_filled a.index.now a.entries.now a.c ≡ true =
-        there ∙ not-false _ c.if-not-is_there.false in
+        there ∙ c.if-not-is_there.false in
     rw filled (puts_one _ _ _)

@@ -29,9 +29,8 @@ put_held-head-requires c =
         let s = c in room-second c.put_sizes-held.ensures (held ++ (heads ++ (lows ++ highs))) (omega (arith, s.requires.count_in_bounds)) in
     let sizes = c in
     let s = sizes in
-    let passes = s.requires.passes.0 in
     rw c.number_at.ensures.value (
-      (passes.points.high, λ p l. omega (arith, s.requires.passes.1.held p l, sets-few s.args.t.now passes)),
+      (s.requires.passes.0.points.high, λ p l. omega (arith, s.requires.passes.1.held p l, sets-few s.args.t.now s.requires.passes.0)),
       room-first sizes.put_sizes-held.new.1.1.0 held (heads ++ (lows ++ highs)) sizes.put_sizes-held.result sizes-room,
     )
 
@@ -53,10 +52,8 @@ put_heads-low-requires c =
         let before = c in let s = before in room-second held-put (heads ++ (lows ++ highs)) sizes-room in
     let before = c in
     let s = before in
-    let passes = s.requires.passes.0 in
-    let known = s.requires.passes.2 in
     rw (c.number_at-2.ensures.value, c.sets.ensures.value) (
-      (known.few, known.below, passes.variables.low, pow_pos (sizes_of s.args.t.now).mutexes),
+      (s.requires.passes.2.few, s.requires.passes.2.below, s.requires.passes.0.variables.low, pow_pos (sizes_of s.args.t.now).mutexes),
       room-first before.put_held-head.new.1.1.1.0 heads (lows ++ highs) before.put_held-head.result held-room,
     )
 

@@ -18,9 +18,8 @@ put_rows-next-requires c =
         let a = c.args in spans_from a.high (sizes_of a.t.now).points a.index.now a.entries.now a.heads.now a.count in
     let third = c in
     let start = third in
-    let passes = start.requires.passes.0 in
     rw (third.number_at-points.ensures.value, third.number_at.ensures.value, third.number_at-2.ensures.value) (
-      (passes.variables.high, omega (arith, passes.points.high, passes.mutexes.high)),
+      (start.requires.passes.0.variables.high, omega (arith, start.requires.passes.0.points.high, start.requires.passes.0.mutexes.high)),
       room-first start.args.out.now rows spans start.args.at start.requires.count_in_bounds,
     )
 
@@ -31,15 +30,13 @@ put_spans-requires c =
     let put = c in
     let third = put in
     let start = third in
-    let points = third.number_at-points.ensures.value in
-    let first = rw (points, third.number_at.ensures.value, third.number_at-2.ensures.value) at put.put_rows-next.ensures in
-    rw points ((start.requires.passes.0.points.high, start.requires.passes.1), room-second first spans start.requires.count_in_bounds)
+    let first = rw (third.number_at-points.ensures.value, third.number_at.ensures.value, third.number_at-2.ensures.value) at put.put_rows-next.ensures in
+    rw third.number_at-points.ensures.value ((start.requires.passes.0.points.high, start.requires.passes.1), room-second first spans start.requires.count_in_bounds)
 
 pub returns : goal.returns
 returns c =
     let second = c in
     let put = second in
     let third = put in
-    let points = third.number_at-points.ensures.value in
-    let first = rw (points, third.number_at.ensures.value, third.number_at-2.ensures.value) at put.put_rows-next.ensures in
-    puts-append first (rw points at second.put_spans.ensures)
+    let first = rw (third.number_at-points.ensures.value, third.number_at.ensures.value, third.number_at-2.ensures.value) at put.put_rows-next.ensures in
+    puts-append first (rw third.number_at-points.ensures.value at second.put_spans.ensures)

@@ -8,8 +8,7 @@ pub put_head-next-requires : goal.put_head-next-requires
 put_head-next-requires c =
     let inside = c in
     let below = inside.loop-i-test.true in
-    let pre = inside.requires.count_bound in
-    record { c_bound = (pre.1 inside.loop-i.i below, pre.2, pre.3); at_in_bounds = turn-room inside.loop-i.invariant below }
+    record { c_bound = (inside.requires.count_bound.1 inside.loop-i.i below, inside.requires.count_bound.2, inside.requires.count_bound.3); at_in_bounds = turn-room inside.loop-i.invariant below }
 
 pub loop-i-preserved : goal.loop-i-preserved
 loop-i-preserved c =

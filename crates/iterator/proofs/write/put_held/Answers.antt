@@ -10,8 +10,7 @@ use Rattle.iterator.proofs.write.put_held.Goals as goal
 pub held_word-requires : goal.held_word-requires
 held_word-requires c =
     let below = c.loop-p-test.true in
-    let pre = c.requires in
-    (omega (arith, pre.0), pre.0.1 c.loop-p.p below)
+    (omega (arith, c.requires.points_bound), c.requires.points_bound.1 c.loop-p.p below)
 
 pub loop-p-preserved : goal.loop-p-preserved
 loop-p-preserved c =

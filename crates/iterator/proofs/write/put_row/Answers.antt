@@ -2,7 +2,6 @@
 use Prim.Native.Nat.{◌+◌, ◌≤◌}
 use mathlib.Core.Path.{◌≡◌, sym, ap, subst, ◌∙◌}
 use mathlib.Core.List.{List}
-use borrow.Author.Tests.{not-true, not-false}
 use lib.IntN.{ℤ, pos}
 use lib.ListN.{length, take, replicate, length-replicate}
 use Rattle.iterator.specs.Arrays.{places_in}
@@ -23,7 +22,7 @@ put-requires c =
     let zeros : let start = c in ends ≡ take start.args.n (replicate 16 (pos 0)) =
         let start = c in
         let a = start.args in
-        ends-none a.high a.n a.c a.rows.now a.k start.requires.n_bound.2 (sym c.is_there.ensures ∙ not-true _ c.if-not-is_there.true)
+        ends-none a.high a.n a.c a.rows.now a.k start.requires.n_bound.2 (sym c.is_there.ensures ∙ c.if-not-is_there.true)
         ∙ sym (zeros-take a.n 16 start.requires.n_bound.0) in
     let start = c in
     subst (λ (l : List ℤ). start.args.at + length l ≤ length start.args.out.now) zeros start.requires.k_in_bounds
@@ -35,7 +34,7 @@ returns-then-not-is_there c =
     let zeros : let start = c in ends ≡ take start.args.n (replicate 16 (pos 0)) =
         let start = c in
         let a = start.args in
-        ends-none a.high a.n a.c a.rows.now a.k start.requires.n_bound.2 (sym c.is_there.ensures ∙ not-true _ c.if-not-is_there.true)
+        ends-none a.high a.n a.c a.rows.now a.k start.requires.n_bound.2 (sym c.is_there.ensures ∙ c.if-not-is_there.true)
         ∙ sym (zeros-take a.n 16 start.requires.n_bound.0) in
     let put = c in
     let absent = put in
@@ -50,7 +49,7 @@ put-requires-2 c =
         let other = c in
         let start = other in
         let a = start.args in
-        ends_some a.high a.n a.c a.rows.now a.k start.requires.n_bound.2 (sym other.is_there.ensures ∙ not-false _ other.if-not-is_there.false)
+        ends_some a.high a.n a.c a.rows.now a.k start.requires.n_bound.2 (sym other.is_there.ensures ∙ other.if-not-is_there.false)
         ∙ sym c.ends_at.ensures in
     let start = c in
     subst (λ (l : List ℤ). start.args.at + length l ≤ length start.args.out.now) there start.requires.k_in_bounds
@@ -63,7 +62,7 @@ returns c =
         let other = c in
         let start = other in
         let a = start.args in
-        ends_some a.high a.n a.c a.rows.now a.k start.requires.n_bound.2 (sym other.is_there.ensures ∙ not-false _ other.if-not-is_there.false)
+        ends_some a.high a.n a.c a.rows.now a.k start.requires.n_bound.2 (sym other.is_there.ensures ∙ other.if-not-is_there.false)
         ∙ sym c.ends_at.ensures in
     let put = c in
     let found = put in

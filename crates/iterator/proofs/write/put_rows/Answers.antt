@@ -8,8 +8,7 @@ pub put_row-next-requires : goal.put_row-next-requires
 put_row-next-requires c =
     let below = c.loop-k-test.true in
     let loop = c in
-    let pre = loop.requires.n_bound in
-    record { n_bound = (pre.0, pre.1, below); k_in_bounds = turn-room loop.loop-k.invariant below }
+    record { n_bound = (loop.requires.n_bound.0, loop.requires.n_bound.1, below); k_in_bounds = turn-room loop.loop-k.invariant below }
 
 pub loop-k-preserved : goal.loop-k-preserved
 loop-k-preserved c =

@@ -9,22 +9,18 @@ use Rattle.iterator.proofs.write.put_sizes.Goals as goal
 
 pub returns : goal.returns
 returns c =
-    let points = c.number_at.ensures.value in
-    let variables = c.number_at-2.ensures.value in
-    let mutexes = c.number_at-3.ensures.value in
     let start = c in
-    let pre = start.requires.passes in
     let sizes = sizes_of start.args.t.now in
     record {
       is =
           rw (
-            points,
-            variables,
-            mutexes,
-            to_z_pos w32 sizes.points (omega (arith, pre.0.points.high)),
-            to_z_pos w32 sizes.variables (omega (arith, pre.0.variables.high)),
-            to_z_pos w32 sizes.mutexes (omega (arith, pre.0.mutexes.high)),
-            to_z_pos w32 start.args.count (omega (arith, pre.1)),
+            c.number_at.ensures.value,
+            c.number_at-2.ensures.value,
+            c.number_at-3.ensures.value,
+            to_z_pos w32 sizes.points (omega (arith, start.requires.passes.0.points.high)),
+            to_z_pos w32 sizes.variables (omega (arith, start.requires.passes.0.variables.high)),
+            to_z_pos w32 sizes.mutexes (omega (arith, start.requires.passes.0.mutexes.high)),
+            to_z_pos w32 start.args.count (omega (arith, start.requires.passes.1)),
           ) refl;
       next-is = refl;
     }

@@ -11,8 +11,7 @@ pub span_end-requires : goal.span_end-requires
 span_end-requires c =
     let below = c.loop-i-test.true in
     let i = c.loop-i.i in
-    let pre = c.requires.points_bound in
-    (pre.0, pre.1.below i below, pre.1.slot i below)
+    (c.requires.points_bound.0, c.requires.points_bound.1.below i below, c.requires.points_bound.1.slot i below)
 
 pub loop-i-preserved : goal.loop-i-preserved
 loop-i-preserved c =

@@ -42,11 +42,10 @@ collect-count-requires c =
         let a = c.args in omega (arith, codes-few a.t.now (held_in a.plan.now) (state_in a.t.now a.rows.now a.entries.now), c.requires.passes.0.points.high) in
     let s = c in
     let a = s.args in
-    let passes = s.requires.passes.0 in
     rw codes-is (
       (
-        heads-few a.t.now passes,
-        slot-few a.t.now (held_in a.plan.now) a.index.now s.requires.passes.2 passes,
+        heads-few a.t.now s.requires.passes.0,
+        slot-few a.t.now (held_in a.plan.now) a.index.now s.requires.passes.2 s.requires.passes.0,
       ),
       (c.no_heads-heads.ensures, rw codes-filled codes-small),
     )
@@ -75,14 +74,17 @@ put_all-requires c =
     let words-fit : length words ≤ length c.args.out.now =
         let a = c.args in omega (arith, words-few a.t.now (held_in a.plan.now) a.rows.now a.entries.now, c.requires.t_in_bounds) in
     let from : let a = c.args in words ≡ words_from a.t.now a.plan.now a.index.now a.rows.now a.entries.now heads c.collect-count.result =
-        let s = c in let a = s.args in words-is a.t.now a.plan.now a.index.now a.rows.now a.entries.now s.pre.0.0 s.pre.0.2 heads c.collect-count.result count-is (heads-are c) in
+        let s = c in
+        let a = s.args in
+        words-is a.t.now a.plan.now a.index.now a.rows.now a.entries.now s.requires.passes.0 s.requires.passes.2
+        heads c.collect-count.result count-is (heads-are c) in
     let all = c in
     let s = all in
     let a = s.args in
     let known =
-    heads-known a.t.now a.plan.now a.index.now a.rows.now a.entries.now s.pre.0.0 s.pre.0.2
+    heads-known a.t.now a.plan.now a.index.now a.rows.now a.entries.now s.requires.passes.0 s.requires.passes.2
     heads all.collect-count.result count-is (heads-are all)
-    in record { passes = (s.pre.0.0, s.pre.0.1, known); count_in_bounds = subst (λ (l : List ℤ). length l ≤ length a.out.now) from words-fit }
+    in record { passes = (s.requires.passes.0, s.requires.passes.1, known); count_in_bounds = subst (λ (l : List ℤ). length l ≤ length a.out.now) from words-fit }
 
 pub returns : goal.returns
 returns c =
@@ -103,10 +105,13 @@ returns c =
     let count-is : c.collect-count.result ≡ length codes =
         omega (arith, collected.next-is) in
     let from : let a = c.args in words ≡ words_from a.t.now a.plan.now a.index.now a.rows.now a.entries.now heads c.collect-count.result =
-        let s = c in let a = s.args in words-is a.t.now a.plan.now a.index.now a.rows.now a.entries.now s.pre.0.0 s.pre.0.2 heads c.collect-count.result count-is (heads-are c) in
+        let s = c in
+        let a = s.args in
+        words-is a.t.now a.plan.now a.index.now a.rows.now a.entries.now s.requires.passes.0 s.requires.passes.2
+        heads c.collect-count.result count-is (heads-are c) in
     let put = c in
     let all = put in
     let s = all in
-    let last = put.put_all_lem.new.1.1.1.1.1.1.1.0 in
-    let p = subst (λ (l : List ℤ). Puts s.args.out.now 0 l last put.put_all_lem.result) (sym from) put.put_all_lem.ensures in
+    let last = put.put_all.new.1.1.1.1.1.1.1.0 in
+    let p = subst (λ (l : List ℤ). Puts s.args.out.now 0 l last put.put_all.result) (sym from) put.put_all.ensures in
     record { value = omega (arith, p.next-is); out_after = puts-front p words-fit }

@@ -6,7 +6,7 @@ use mathlib.Core.Bool.{Bool, not}
 use native.Mathlib.Omega.{arith}
 use borrow.Author.Tests.{not-true, not-false}
 use Rattle.words.specs.First.{all_below}
-use Rattle.words.proofs.Bools.{holds, fails, fails-not, holds_not}
+use Rattle.words.proofs.Bools.{holds, fails}
 use Rattle.words.proofs.FirstLaws.{check, checks, checked, fails-at}
 use Rattle.analysis.specs.Rows.{row_of}
 use Rattle.rules.specs.Proposal.{rows_of, entries_of, reached_of}
@@ -19,14 +19,14 @@ use Rattle.rules.proofs.disturb.first_disturbed.Goals as goal
 
 pub pairs-preserved-then-not-is_reached : goal.pairs-preserved-then-not-is_reached
 pairs-preserved-then-not-is_reached c =
-    let reach-is : let turn = c in c.is_reached.result ≡ reached_of (to_start turn).args.w.now turn.pairs.p =
+    let reach-is : let turn = c in c.is_reached.result ≡ reached_of turn.args.w.now turn.pairs.p =
         rw c.held-s.ensures.value at c.is_reached.ensures in
     let held = c in
     let turn = held in
     let inv = turn.pairs.invariant in (
       inv.0,
       seeks inv.1 turn.pairs-test.true
-          (not-reached _ _ _ (fails-not reach-is c.if-not-is_reached.true)),
+          (not-reached _ _ _ (fails reach-is c.if-not-is_reached.true)),
       inv.2,
     )
 
@@ -36,24 +36,24 @@ hull_for-requires c =
         let from = c in record { heads = from.heads-all.ensures; lows = from.entry_lows-from.ensures; highs = c.entry_highs-to.ensures } in
     let turn = c in
     let cut = turn in
-    record { listed = listed cut.pre.0 at-hand; around = turn.pairs.invariant.2 }
+    record { listed = listed cut.requires.ready at-hand; around = turn.pairs.invariant.2 }
 
 pub row_lows-lows-requires : goal.row_lows-lows-requires
 row_lows-lows-requires c =
     let point-below : c.pairs.p ≤ 4294967295 =
-        let pre = (to_start c).pre in omega (arith, c.pairs-test.true, pre.1.1, pre.0.bounded.points) in
-    let turn = c in record { all_value = (to-count turn).before.before.lows.ensures; k_bound = point-below }
+        let pre = c.requires in omega (arith, c.pairs-test.true, pre.1.1, pre.0.bounded.points) in
+    let turn = c in record { all_value = turn.lows-all_lows.ensures; k_bound = point-below }
 
 pub row_highs-highs-requires : goal.row_highs-highs-requires
 row_highs-highs-requires c =
     let point-below : c.pairs.p ≤ 4294967295 =
-        let pre = (to_start c).pre in omega (arith, c.pairs-test.true, pre.1.1, pre.0.bounded.points) in
-    let turn = c in record { all_value = (to-count turn).before.highs.ensures; k_bound = point-below }
+        let pre = c.requires in omega (arith, c.pairs-test.true, pre.1.1, pre.0.bounded.points) in
+    let turn = c in record { all_value = turn.highs-all_highs.ensures; k_bound = point-below }
 
 pub holds_hull-requires : goal.holds_hull-requires
 holds_hull-requires c =
-    let is_row : let turn = c in turn.pairs.p < rows_of (to_start turn).args.t.now =
-        let turn = c in omega (arith, turn.pairs-test.taken, (to_start turn).pre.1.1) in
+    let is_row : let turn = c in turn.pairs.p < rows_of turn.args.t.now =
+        let turn = c in omega (arith, turn.pairs-test.taken, turn.requires.from_le_to.1) in
     let row = c in
     let whole = row-whole (to_start (to-cut row)).pre.0 _ is_row row.row_lows-lows.ensures row.row_highs-highs.ensures in
     (omega (arith, whole.variables, whole.low), whole.high ∙ sym whole.low)
@@ -63,8 +63,8 @@ pub pairs-preserved-then-holds_hull : goal.pairs-preserved-then-holds_hull
 pairs-preserved-then-holds_hull c =
     let at-hand : let from = c in let a = c.args in Apart a.t.now a.w.now from.heads-all.result.now from.entry_lows-from.result.now c.entry_highs-to.result.now =
         let from = c in record { heads = from.heads-all.ensures; lows = from.entry_lows-from.ensures; highs = c.entry_highs-to.ensures } in
-    let is_row : let turn = c in turn.pairs.p < rows_of (to_start turn).args.t.now =
-        let turn = c in omega (arith, turn.pairs-test.taken, (to_start turn).pre.1.1) in
+    let is_row : let turn = c in turn.pairs.p < rows_of turn.args.t.now =
+        let turn = c in omega (arith, turn.pairs-test.taken, turn.requires.from_le_to.1) in
     let there : let cut = to-cut c in let from = cut.before in (i : ℕ) → i < entries_of cut.args.w.now → Readable from.before.heads.result.now from.entry-lows.result.now cut.entry-highs.result.now c.row_lows-lows.result.now c.row_highs-highs.result.now i =
         λ i l. let cut = to-cut c in readable cut.pre.0 _ _ (at-hand cut) c.row_lows-lows.ensures c.row_highs-highs.ensures is_row l in
     let test = c in
@@ -82,8 +82,8 @@ pub is_disturbed-requires : goal.is_disturbed-requires
 is_disturbed-requires c =
     let at-hand : let from = c in let a = c.args in Apart a.t.now a.w.now from.heads-all.result.now from.entry_lows-from.result.now c.entry_highs-to.result.now =
         let from = c in record { heads = from.heads-all.ensures; lows = from.entry_lows-from.ensures; highs = c.entry_highs-to.ensures } in
-    let is_row : let turn = c in turn.pairs.p < rows_of (to_start turn).args.t.now =
-        let turn = c in omega (arith, turn.pairs-test.taken, (to_start turn).pre.1.1) in
+    let is_row : let turn = c in turn.pairs.p < rows_of turn.args.t.now =
+        let turn = c in omega (arith, turn.pairs-test.taken, turn.requires.from_le_to.1) in
     let there : let cut = to-cut c in let from = cut.before in (i : ℕ) → i < entries_of cut.args.w.now → Readable from.before.heads.result.now from.entry-lows.result.now cut.entry-highs.result.now c.row_lows-lows.result.now c.row_highs-highs.result.now i =
         λ i l. let cut = to-cut c in readable cut.pre.0 _ _ (at-hand cut) c.row_lows-lows.ensures c.row_highs-highs.ensures is_row l in
     let row = c in
@@ -135,22 +135,22 @@ pub hull-around-requires : goal.hull-around-requires
 hull-around-requires c =
     let at-hand : let from = c in let a = c.args in Apart a.t.now a.w.now from.heads-all.result.now from.entry_lows-from.result.now c.entry_highs-to.result.now =
         let from = c in record { heads = from.heads-all.ensures; lows = from.entry_lows-from.ensures; highs = c.entry_highs-to.ensures } in
-    listed c.pre.0 at-hand
+    listed c.requires.ready at-hand
 
 pub pairs-init : goal.pairs-init
 pairs-init c =
-    (refl, seek c.pre.1.0, c.hull-around.ensures)
+    (refl, seek c.requires.from_le_to.0, c.hull-around.ensures)
 
 pub held-s-requires : goal.held-s-requires
 held-s-requires c =
     let point-below : c.pairs.p ≤ 4294967295 =
-        let pre = (to_start c).pre in omega (arith, c.pairs-test.true, pre.1.1, pre.0.bounded.points) in
+        let pre = c.requires in omega (arith, c.pairs-test.true, pre.1.1, pre.0.bounded.points) in
     point-below
 
 pub overflow_step-p-then-holds_hull : goal.overflow_step-p-then-holds_hull
 overflow_step-p-then-holds_hull c =
     let point-below : c.pairs.p ≤ 4294967295 =
-        let pre = (to_start c).pre in omega (arith, c.pairs-test.true, pre.1.1, pre.0.bounded.points) in
+        let pre = c.requires in omega (arith, c.pairs-test.true, pre.1.1, pre.0.bounded.points) in
     omega (arith, point-below)
 
 pub loop-i-init : goal.loop-i-init
@@ -160,13 +160,13 @@ loop-i-init c =
 pub overflow_step-i : goal.overflow_step-i
 overflow_step-i c =
     let entry-below : c.loop-i.i < 4294967295 =
-        let turn = c in omega (arith, c.loop-i-test.true, (to-count turn).entries.ensures.1) in
+        let turn = c in omega (arith, c.loop-i-test.true, turn.entries.ensures.1) in
     omega (arith, entry-below)
 
 pub overflow_step-p-in-pairs : goal.overflow_step-p-in-pairs
 overflow_step-p-in-pairs c =
     let point-below : c.pairs.p ≤ 4294967295 =
-        let pre = (to_start c).pre in omega (arith, c.pairs-test.true, pre.1.1, pre.0.bounded.points) in
+        let pre = c.requires in omega (arith, c.pairs-test.true, pre.1.1, pre.0.bounded.points) in
     omega (arith, point-below)
 
 pub returns-after-pairs : goal.returns-after-pairs

@@ -3,7 +3,7 @@
 use Prim.Native.Nat.{◌-◌, ◌<◌}
 use mathlib.Core.Path.{◌≡◌, sym}
 use native.Mathlib.Omega.{arith}
-use Rattle.words.proofs.Bools.{fails-not, holds_not}
+use Rattle.words.proofs.Bools.{fails, holds}
 use Rattle.words.proofs.FirstLaws.{check, checks, checked}
 use Rattle.analysis.specs.Rows.{row_of}
 use Rattle.analysis.specs.Arrays.{row_in}
@@ -80,7 +80,7 @@ returns-then-not-is_inside c =
         ends-tested a.hull.now _ slot a.lows.now a.highs.now c.is_inside.ensures
         low.is_inside-arg-in-loop-v-2-1.given hull-low.is_inside-arg-1.given hull-high.is_inside-arg-in-loop-v-1.given high.is_inside-arg-in-loop-v-3-1.given in
     let turn = c in
-    fails-in turn.loop-v.invariant turn.loop-v-test.true (fails-not tested c.if-not-is_inside.true)
+    fails-in turn.loop-v.invariant turn.loop-v-test.true (fails tested c.if-not-is_inside.true)
 
 pub overflow_add-v-in-loop-v : goal.overflow_add-v-in-loop-v
 overflow_add-v-in-loop-v c =
@@ -102,7 +102,7 @@ loop-v-preserved c =
         ends-tested a.hull.now _ slot a.lows.now a.highs.now c.is_inside.ensures
         low.is_inside-arg-in-loop-v-2-1.given hull-low.is_inside-arg-1.given hull-high.is_inside-arg-in-loop-v-1.given high.is_inside-arg-in-loop-v-3-1.given in
     let turn = c in
-    checks turn.loop-v.invariant turn.loop-v-test.true (holds_not tested c.if-not-is_inside.false)
+    checks turn.loop-v.invariant turn.loop-v-test.true (holds tested c.if-not-is_inside.false)
 
 pub returns : goal.returns
 returns c =

@@ -32,7 +32,6 @@ returns c =
     let to = low in
     let from = to in
     let v = from in
-    let pre = v.requires in
     rw (
       read_back high.word_at-5.type_inv ∙ high.word_at-5.ensures,
       read_back low.word_at-4.type_inv ∙ low.word_at-4.ensures,
@@ -40,4 +39,4 @@ returns c =
       read_back from.word_at-2.type_inv ∙ from.word_at-2.ensures,
       variable-is,
     ) at c.is_inside.ensures
-    ∙ takes-is pre.0 _ pre.1
+    ∙ takes-is v.requires.apart _ v.requires.readable

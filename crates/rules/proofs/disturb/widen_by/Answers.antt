@@ -12,8 +12,7 @@ use Rattle.rules.proofs.disturb.widen_by.Goals as goal
 
 pub natural-v-requires : goal.natural-v-requires
 natural-v-requires c =
-    let pre = c.requires.listed in
-    let variable = pre.0.variable _ pre.1 in
+    let variable = c.requires.listed.0.variable _ c.requires.listed.1 in
     subst (λ (z : ℤ). number_of z < 4294967295) (sym (read_back c.word_at.type_inv ∙ c.word_at.ensures)) (omega (arith, variable))
 
 pub returns : goal.returns
@@ -21,7 +20,7 @@ returns c =
     let variable-is : let start = c in c.natural-v.result ≡ number_at start.args.heads.now (3 * start.args.i + 2) =
         c.natural-v.ensures ∙ ap number_of (read_back c.word_at.type_inv ∙ c.word_at.ensures) in
     let slot : c.natural-v.result < 16 =
-        let pre = c.requires.listed in rw variable-is (pre.0.variable _ pre.1) in
+        rw variable-is (c.requires.listed.0.variable _ c.requires.listed.1) in
     let to = c in
     let from = to in
     let v = from in
@@ -41,5 +40,5 @@ widen_to-requires c =
     let variable-is : let start = c in c.natural-v.result ≡ number_at start.args.heads.now (3 * start.args.i + 2) =
         c.natural-v.ensures ∙ ap number_of (read_back c.word_at.type_inv ∙ c.word_at.ensures) in
     let slot : c.natural-v.result < 16 =
-        let pre = c.requires.listed in rw variable-is (pre.0.variable _ pre.1) in
+        rw variable-is (c.requires.listed.0.variable _ c.requires.listed.1) in
     slot

@@ -8,28 +8,27 @@ use Rattle.rules.proofs.entry.is_filed.Goals as goal
 
 pub returns-in_default : goal.returns-in_default
 unfolding filed
-returns-in_default c = rw c.enum_told-1.given.1
+returns-in_default c = rw c.in_default.is
 
 pub returns-in_default-find : goal.returns-in_default-find
 returns-in_default-find c =
     let find = c in
     let x = find in
-    rw x.x-1.given.1 (none-filed _ _ x.requires.order _ _ _ find.find.ensures _ _ c.enum_told-in_default-find-1.given.1)
+    rw x.in-Between.is (none-filed _ _ x.requires.order _ _ _ find.find.ensures _ _ c.in_default-find.is)
 
 pub files_at-requires : goal.files_at-requires
 files_at-requires c =
     let find = c in
     let ready = find.requires in
-    record { bounded = ready.bounded; i_bound = omega (arith, ready.bounded.entries, found_below _ _ ready.order _ _ _ find.find.ensures _ c.i-1.given.1) }
+    record { bounded = ready.bounded; i_bound = omega (arith, ready.bounded.entries, found_below _ _ ready.order _ _ _ find.find.ensures _ c.in-At.is) }
 
 pub returns : goal.returns
 returns c =
     let i = c in
     let find = i in
-    let ends = find.known_told-1.given in
     let x = find in
-    let low = read_back {z = x.x-1.given.0.0} ends.0.1 in
-    let high = read_back {z = x.x-1.given.0.1.0} ends.1.0.1 in
-    rw x.x-1.given.1
-    (found-files _ _ x.requires.order _ _ _ find.find.ensures _ _ _ i.i-1.given.1
+    let low = read_back {z = x.in-Between.low} find.in-Between.known_told-1-own.given.0.1 in
+    let high = read_back {z = x.in-Between.high} find.in-Between.known_told-1-own.given.1.0.1 in
+    rw x.in-Between.is
+    (found-files _ _ x.requires.order _ _ _ find.find.ensures _ _ _ i.in-At.is
     (rw (low, high) at c.files_at.ensures))

@@ -3,6 +3,7 @@ use mathlib.Core.Path.{◌≡◌, refl, sym, ◌∙◌}
 use mathlib.Core.Bool.{true}
 use mathlib.Core.List.{List}
 use Prim.Native.Nat.{◌+◌, ◌*◌}
+use borrow.Author.Rules.{rules}
 use borrow.Author.Tests.{le-leb, lt-leb, eq-eqb, ne_eqb}
 use lib.Dec.{leb}
 use lib.IntN.{ℤ}
@@ -24,7 +25,7 @@ returns-in-At c =
     let long : leb 4 (length proposal) ≡ true =
         le-leb _ _ c.if-n-lt4.false in
     let sizes = c in
-    pass-if _ _ long (halt _ (sym sizes.first_size.ensures ∙ c.k-1.given.1))
+    pass-if _ _ long (halt _ (sym sizes.first_size.ensures ∙ c.in-At.is))
 
 pub returns-then-n-lows_from : goal.returns-then-n-lows_from
 unfolding layout_stage proposal_length
@@ -34,7 +35,7 @@ returns-then-n-lows_from c =
     let long : leb 4 (length proposal) ≡ true =
         le-leb _ _ c.if-n-lt4.false in
     let sized : let s = c in first_bad (rule8 s.args.t.now proposal) 4 ≡ Nothing =
-        sym c.first_size.ensures ∙ c.enum_told-1.given.1 in
+        sym c.first_size.ensures ∙ c.in_default.is in
     let computed : let s = c in c.lows_from.result + 2 * c.intervals.result ≡ proposal_length s.args.t.now proposal =
         rw (c.intervals.ensures.value, c.lows_from.ensures.value) in
     let sizes = c in
@@ -49,7 +50,7 @@ returns c =
     let long : leb 4 (length proposal) ≡ true =
         le-leb _ _ c.if-n-lt4.false in
     let sized : let s = c in first_bad (rule8 s.args.t.now proposal) 4 ≡ Nothing =
-        sym c.first_size.ensures ∙ c.enum_told-1.given.1 in
+        sym c.first_size.ensures ∙ c.in_default.is in
     let computed : let s = c in c.lows_from.result + 2 * c.intervals.result ≡ proposal_length s.args.t.now proposal =
         rw (c.intervals.ensures.value, c.lows_from.ensures.value) in
     let sizes = c in
@@ -57,13 +58,35 @@ returns c =
     (pass-if _ _ (eq-eqb _ _ (c.if-n-lows_from.false ∙ computed)) refl))
 
 pub returns-then-n-lt4 : goal.returns-then-n-lt4
+unfolding layout_stage
 returns-then-n-lt4 c =
     halt-if _ (lt-leb _ _ c.if-n-lt4.true) refl
 
+pub first_size-requires : goal.first_size-requires
+unfolding layout_stage
+first_size-requires c =
+    search rules
+
+pub enum_known-k : goal.enum_known-k
+unfolding layout_stage
+enum_known-k c =
+    search rules
+
+pub enum_told-1 : goal.enum_told-1
+unfolding layout_stage
+enum_told-1 c =
+    search rules
+
+pub lows_from-requires : goal.lows_from-requires
+unfolding layout_stage
+lows_from-requires c =
+    search rules
+
 pub intervals-requires : goal.intervals-requires
+unfolding layout_stage
 intervals-requires c =
     let proposal : List ℤ =
         c.args.w.now in
     let sized : let s = c in first_bad (rule8 s.args.t.now proposal) 4 ≡ Nothing =
-        sym c.first_size.ensures ∙ c.enum_told-1.given.1 in
+        sym c.first_size.ensures ∙ c.in_default.is in
     let sizes = c in sizes-limited sizes.requires sized

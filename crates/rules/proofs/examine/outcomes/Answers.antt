@@ -32,23 +32,23 @@ faults-all-requires c =
 
 pub returns-in-At : goal.returns-in-At
 returns-in-At c =
-    walked c (halt _ c.locks-1.given.1)
+    walked c (halt _ c.in-At.is)
 
 pub returns-in-At-flow : goal.returns-in-At-flow
 returns-in-At-flow c =
     let locks = c in
-    walked locks (pass _ locks.enum_told-1.given.1 (halt _ c.flow-1.given.1))
+    walked locks (pass _ locks.in_default.is (halt _ c.in-At-flow.is))
 
 pub returns-in-At-write : goal.returns-in-At-write
 returns-in-At-write c =
     let flow = c in
     let locks = flow in
     walked locks
-    (pass _ locks.enum_told-1.given.1 (pass _ flow.enum_told-in_default-flow-1.given.1 (halt _ c.write-1.given.1)))
+    (pass _ locks.in_default.is (pass _ flow.in_default-flow.is (halt _ c.in-At-write.is)))
 
 pub returns : goal.returns
 returns c =
     let flow = c in
     let locks = flow in
     walked locks
-    (pass _ locks.enum_told-1.given.1 (pass _ flow.enum_told-in_default-flow-1.given.1 (pass _ c.enum_told-in_default-write-1.given.1 refl)))
+    (pass _ locks.in_default.is (pass _ flow.in_default-flow.is (pass _ c.in_default-write.is refl)))

@@ -1,7 +1,7 @@
 -- `rules::order::first_order` meets its contract: each entry passes refusal 10, and the loop is left at the first that does not, or past the last.
 -- Assumes nothing.
 use Prim.Native.Nat.{◌-◌}
-use Rattle.words.proofs.Bools.{fails-not, holds_not}
+use Rattle.words.proofs.Bools.{fails, holds}
 use Rattle.words.proofs.FirstLaws.{start, next, stop, done}
 use Rattle.rules.proofs.order.first_order.Goals as goal
 
@@ -9,12 +9,12 @@ pub returns-then-not-order_ok : goal.returns-then-not-order_ok
 returns-then-not-order_ok c =
     let turn = c in
     rw (← turn.entries-count.ensures.value)
-    (stop turn.loop-i.invariant turn.loop-i-test.true (fails-not c.order_ok.ensures c.if-not-order_ok.true))
+    (stop turn.loop-i.invariant turn.loop-i-test.true (fails c.order_ok.ensures c.if-not-order_ok.true))
 
 pub loop-i-preserved : goal.loop-i-preserved
 loop-i-preserved c =
     let turn = c in
-    next turn.loop-i.invariant turn.loop-i-test.true (holds_not c.order_ok.ensures c.if-not-order_ok.false)
+    next turn.loop-i.invariant turn.loop-i-test.true (holds c.order_ok.ensures c.if-not-order_ok.false)
 
 pub loop-i-init : goal.loop-i-init
 loop-i-init c =

@@ -1,4 +1,6 @@
 -- `rules::order::order_ok` meets its contract: the first entry passes, and each other is looked at with the one before. Assumes nothing.
+use borrow.Author.Rules.{rules}
+use Rattle.rules.specs.Rules.{rule10}
 use Rattle.rules.proofs.RangeLaws.{order_is}
 use Rattle.rules.proofs.order.order_ok.Goals as goal
 
@@ -16,5 +18,26 @@ returns c =
     )
 
 pub returns-then-i-eq0 : goal.returns-then-i-eq0
+unfolding rule10
 returns-then-i-eq0 c =
     rw c.if-i-eq0.true
+
+pub head-requires : goal.head-requires
+unfolding rule10
+head-requires c =
+    search rules
+
+pub head-requires-2 : goal.head-requires-2
+unfolding rule10
+head-requires-2 c =
+    search rules
+
+pub head-requires-3 : goal.head-requires-3
+unfolding rule10
+head-requires-3 c =
+    search rules
+
+pub before-requires : goal.before-requires
+unfolding rule10
+before-requires c =
+    search rules

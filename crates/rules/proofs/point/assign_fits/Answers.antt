@@ -14,8 +14,7 @@ unfolding alarms_by
 returns-in_default c =
     let told = c in
     let walk = told in
-    let nodes = walk.requires.whole.1.0 in
-    let valued = walk.Value-on.ensures in record { value = assign-none _ _ _ _ _ _ _ _ nodes valued.0 told.enum_told-1.given.1 c.no_outcome.ensures; marks_after = rw nodes at valued.1 }
+    record { value = assign-none _ _ _ _ _ _ _ _ walk.requires.nodes_value walk.value_on-x.ensures.value told.in_default.is c.no_outcome.ensures; marks_after = rw walk.requires.nodes_value at walk.value_on-x.ensures.marks_after }
 
 pub returns : goal.returns
 unfolding alarms_by
@@ -28,13 +27,10 @@ returns c =
     let told = held in
     let matched = told in
     let walk = matched in
-    let given = walk.requires.whole in
-    let nodes = given.1.0 in
-    let valued = walk.Value-on.ensures in
-    let low = read_back {z = matched.x-1.given.0.0} told.known_told-1.given.0.1 in
-    let high = read_back {z = matched.x-1.given.0.1.0} told.known_told-1.given.1.0.1 in record { value = assign-some _ _ _ _ _ _ _ _ given.0 nodes valued.0 matched.x-1.given.1 low high held.held.ensures.value
+    let low = read_back {z = matched.in-Between.low} told.in-Between.known_told-1-own.given.0.1 in
+    let high = read_back {z = matched.in-Between.high} told.in-Between.known_told-1-own.given.1.0.1 in record { value = assign-some _ _ _ _ _ _ _ _ walk.requires.whole walk.requires.nodes_value walk.value_on-x.ensures.value matched.in-Between.is low high held.held.ensures.value
           (record { variables = flow.number_at.ensures.value; low = lows.row_lows.ensures; high = highs.row_highs.ensures })
-          flow.written_within.ensures task.task_of.ensures c.is_filed.ensures; marks_after = rw nodes at valued.1 }
+          flow.written_within.ensures task.task_of.ensures c.is_filed.ensures; marks_after = rw walk.requires.nodes_value at walk.value_on-x.ensures.marks_after }
 
 -- the ends of both rows, and those of what is written, are in order
 pub written_within-requires : goal.written_within-requires
@@ -44,14 +40,12 @@ written_within-requires c =
     let told = lows in
     let matched = told in
     let walk = matched in
-    let pre = walk.requires in
-    let size = c.number_at.ensures.value in
-    let low = read_back {z = matched.x-1.given.0.0} told.known_told-1.given.0.1 in
-    let high = read_back {z = matched.x-1.given.0.1.0} told.known_told-1.given.1.0.1 in (
-      rw size pre.1.0.ordered,
+    let low = read_back {z = matched.in-Between.low} told.in-Between.known_told-1-own.given.0.1 in
+    let high = read_back {z = matched.in-Between.high} told.in-Between.known_told-1-own.given.1.0.1 in (
+      rw c.number_at.ensures.value walk.requires.whole.ordered,
       (
-        (rw (low, high) (value-ordered _ _ walk.Value-on.ensures.0 matched.x-1.given.1), refl),
-        row-ordered pre.0.ready _ (omega (arith, pre.1.1.1)) size lows.row_lows.ensures highs.row_highs.ensures,
+        (rw (low, high) (value-ordered _ _ walk.value_on-x.ensures.value matched.in-Between.is), refl),
+        row-ordered walk.requires.rows.ready _ (omega (arith, walk.requires.q_bound)) c.number_at.ensures.value lows.row_lows.ensures highs.row_highs.ensures,
       ),
     )
 

@@ -1,6 +1,6 @@
 -- `rules::point::lock_fits` meets its contract: there is an outcome where the mutex isn't held and its rest row meets the row. Assumes nothing.
 use native.Mathlib.Omega.{arith}
-use Rattle.words.proofs.Bools.{holds, fails, holds_not}
+use Rattle.words.proofs.Bools.{holds, fails}
 use Rattle.rules.proofs.PartsLaws.{row-ordered}
 use Rattle.rules.proofs.PointLaws.{lock-held, lock-apart, lock-met}
 use Rattle.rules.proofs.point.lock_fits.Goals as goal
@@ -10,9 +10,7 @@ pub meets-requires : goal.meets-requires
 meets-requires c =
     let lows = c in
     let points = lows in
-    let pre = points.requires in
-    let size = points.number_at-variables.ensures.value in
-    let e = points.number_at.ensures.value in record { ordered = rw size pre.1.0.ordered; ordered_2 = row-ordered pre.0.ready _ (omega (arith, e, pre.1.1.0)) size lows.row_lows-rest_lows.ensures c.row_highs-rest_highs.ensures }
+    record { ordered = rw points.number_at-variables.ensures.value points.requires.whole.ordered; ordered_2 = row-ordered points.requires.rows.ready _ (omega (arith, points.number_at.ensures.value, points.requires.m_bound.0)) points.number_at-variables.ensures.value lows.row_lows-rest_lows.ensures c.row_highs-rest_highs.ensures }
 
 -- and those of the target's row; where the rows meet, so are the met ends
 pub met_within-requires : goal.met_within-requires
@@ -20,15 +18,15 @@ met_within-requires c =
     let to-lows = c in
     let held = to-lows in
     let returns = held in
-    let rests = meets-requires returns κs in
+    let rests = meets-requires returns in
     let points = returns in
-    let pre = points.requires in (
+    (
       rests.0,
       (
         rests.1,
         (
-          row-ordered pre.0.ready _ (omega (arith, pre.1.1.1)) points.number_at-variables.ensures.value to-lows.row_lows.ensures c.row_highs.ensures,
-          holds_not returns.meets.ensures held.if-not-meets.false,
+          row-ordered points.requires.rows.ready _ (omega (arith, points.requires.m_bound.1)) points.number_at-variables.ensures.value to-lows.row_lows.ensures c.row_highs.ensures,
+          holds returns.meets.ensures held.if-not-meets.false,
         ),
       ),
     )
@@ -40,9 +38,8 @@ returns-then-not-meets c =
     let lows = highs in
     let points = lows in
     let free = points in
-    let e = points.number_at.ensures.value in
     lock-apart _ _ _ _ _ _ _ (fails free.has.ensures free.if-has.false)
-    (record { variables = points.number_at-variables.ensures.value; low = rw e at lows.row_lows-rest_lows.ensures; high = rw e at highs.row_highs-rest_highs.ensures })
+    (record { variables = points.number_at-variables.ensures.value; low = rw points.number_at.ensures.value at lows.row_lows-rest_lows.ensures; high = rw points.number_at.ensures.value at highs.row_highs-rest_highs.ensures })
     returns.meets.ensures c.if-not-meets.true c.no_outcome-then-not-meets.ensures
 
 pub returns : goal.returns
@@ -56,12 +53,10 @@ returns c =
     let lows = highs in
     let points = lows in
     let free = points in
-    let e = points.number_at.ensures.value in
-    let variables = points.number_at-variables.ensures.value in
     lock-met _ _ _ _ _ _ _ (fails free.has.ensures free.if-has.false)
-    (record { variables = variables; low = rw e at lows.row_lows-rest_lows.ensures; high = rw e at highs.row_highs-rest_highs.ensures })
+    (record { points.number_at-variables.ensures.value = points.number_at-variables.ensures.value; low = rw points.number_at.ensures.value at lows.row_lows-rest_lows.ensures; high = rw points.number_at.ensures.value at highs.row_highs-rest_highs.ensures })
     returns.meets.ensures held.if-not-meets.false with.with.ensures held.held.ensures.value
-    (record { variables = variables; low = to-lows.row_lows.ensures; high = to-highs.row_highs.ensures }) c.met_within.ensures
+    (record { points.number_at-variables.ensures.value = points.number_at-variables.ensures.value; low = to-lows.row_lows.ensures; high = to-highs.row_highs.ensures }) c.met_within.ensures
 
 pub returns-then-has : goal.returns-then-has
 returns-then-has c =

@@ -10,8 +10,7 @@ returns-then-not-is_reached c =
 pub reached_fits-requires : goal.reached_fits-requires
 reached_fits-requires c =
     let held = c in
-    let pre = held.requires in
-    (pre.0, (pre.1.0, (pre.1.1.0, (pre.1.1.1, held.held-s.ensures.upper_bound))))
+    (held.requires.rows, (held.requires.points_value, (held.requires.nodes_value, (held.requires.p_bound, held.held-s.ensures.upper_bound))))
 
 pub returns : goal.returns
 returns c =

@@ -4,6 +4,7 @@ use Prim.Native.Nat.{ℕ}
 use mathlib.Core.Path.{◌≡◌, refl}
 use mathlib.Core.List.{List}
 use native.Mathlib.Omega.{arith}
+use borrow.Author.Rules.{rules}
 use Rattle.table.specs.Passes.{FormedPoint}
 use Rattle.table.specs.declared.Point.{Point}
 use Rattle.analysis.specs.Alarms.{marked_of}
@@ -36,7 +37,7 @@ assign_fits-requires c =
     let x = c in
     let at = x in
     let pre = at.requires in
-    (pre.0, (whole, (pre.1.1.0, (names at x.x-1.given.1).2.point)))
+    (pre.0, (whole, (pre.1.1.0, (names at x.in-Assign.is).2.point)))
 
 pub test_fits-requires : goal.test_fits-requires
 unfolding FormedPoint
@@ -46,7 +47,7 @@ test_fits-requires c =
     let x = c in
     let at = x in
     let pre = at.requires in
-    let named = names at x.x-in-Test-1.given.1 in
+    let named = names at x.in-Test.is in
     (pre.0, (whole, (pre.1.1.0, (named.1.point, named.2.point))))
 
 pub lock_fits-requires : goal.lock_fits-requires
@@ -57,7 +58,7 @@ lock_fits-requires c =
     let x = c in
     let at = x in
     let pre = at.requires in
-    let named = names at x.x-in-Lock-1.given.1 in
+    let named = names at x.in-Lock.is in
     (pre.0, (whole, (named.0, named.1.point, pre.1.1.1.1)))
 
 pub unlock_fits-requires : goal.unlock_fits-requires
@@ -68,29 +69,79 @@ unlock_fits-requires c =
     let x = c in
     let at = x in
     let pre = at.requires in
-    let named = names at x.x-in-Unlock-1.given.1 in
+    let named = names at x.in-Unlock.is in
     (pre.0, (whole, (mutex-fits pre.0.ready.passes named.0, named.1.point)))
 
+pub row_lows-lows-requires : goal.row_lows-lows-requires
+unfolding alarms_by marked_of
+row_lows-lows-requires c =
+    search rules
+
+pub row_highs-highs-requires : goal.row_highs-highs-requires
+unfolding alarms_by marked_of
+row_highs-highs-requires c =
+    search rules
+
+pub point_at-x-requires : goal.point_at-x-requires
+unfolding alarms_by marked_of
+point_at-x-requires c =
+    search rules
+
+pub enum_told-1 : goal.enum_told-1
+unfolding alarms_by marked_of
+enum_told-1 c =
+    search rules
+
+pub no_outcome-requires : goal.no_outcome-requires
+unfolding alarms_by marked_of
+no_outcome-requires c =
+    search rules
+
+pub enum_known-x : goal.enum_known-x
+unfolding alarms_by marked_of
+enum_known-x c =
+    search rules
+
+pub enum_known-x-in-Test-1 : goal.enum_known-x-in-Test-1
+unfolding alarms_by marked_of
+enum_known-x-in-Test-1 c =
+    search rules
+
+pub enum_known-x-in-Lock-1 : goal.enum_known-x-in-Lock-1
+unfolding alarms_by marked_of
+enum_known-x-in-Lock-1 c =
+    search rules
+
+pub enum_known-x-in-Unlock-1 : goal.enum_known-x-in-Unlock-1
+unfolding alarms_by marked_of
+enum_known-x-in-Unlock-1 c =
+    search rules
+
 pub returns-in-End : goal.returns-in-End
+unfolding alarms_by marked_of
 returns-in-End c =
-    let told = c in arm told told.enum_told-1.given.1 (end_fits _ _ _ _ _ c.no_outcome.ensures) refl
+    let told = c in arm told told.in-End.is (end_fits _ _ _ _ _ c.no_outcome.ensures) refl
 
 pub returns-in-Assign : goal.returns-in-Assign
+unfolding alarms_by marked_of
 returns-in-Assign c =
     let done = c in
     let x = done in
-    arm x x.x-1.given.1 done.assign_fits.ensures.value done.assign_fits.ensures.marks_after
+    arm x x.in-Assign.is done.assign_fits.ensures.value done.assign_fits.ensures.marks_after
 
 pub returns-in-Test : goal.returns-in-Test
+unfolding alarms_by marked_of
 returns-in-Test c =
     let done = c in
     let x = done in
-    arm x x.x-in-Test-1.given.1 done.test_fits.ensures.value done.test_fits.ensures.marks_after
+    arm x x.in-Test.is done.test_fits.ensures.value done.test_fits.ensures.marks_after
 
 pub returns-in-Lock : goal.returns-in-Lock
+unfolding alarms_by marked_of
 returns-in-Lock c =
-    let x = c in arm x x.x-in-Lock-1.given.1 c.lock_fits.ensures refl
+    let x = c in arm x x.in-Lock.is c.lock_fits.ensures refl
 
 pub returns-in-Unlock : goal.returns-in-Unlock
+unfolding alarms_by marked_of
 returns-in-Unlock c =
-    let x = c in arm x x.x-in-Unlock-1.given.1 c.unlock_fits.ensures refl
+    let x = c in arm x x.in-Unlock.is c.unlock_fits.ensures refl

@@ -23,8 +23,7 @@ row_within-requires c =
     let lows = highs in
     let own-highs = lows in
     let own-lows = own-highs in
-    let pre = own-lows.requires in
-    let size = c.number_at.ensures.value in record { ordered = rw (own-lows.low_ends.ensures, own-highs.high_ends.ensures, size) pre.1.0; ordered_2 = row-ordered pre.0.ready _ (omega (arith, pre.1.1)) size lows.row_lows.ensures highs.row_highs.ensures }
+    record { ordered = rw (own-lows.low_ends.ensures, own-highs.high_ends.ensures, c.number_at.ensures.value) own-lows.requires.ordered; ordered_2 = row-ordered own-lows.requires.rows.ready _ (omega (arith, own-lows.requires.q_bound)) c.number_at.ensures.value lows.row_lows.ensures highs.row_highs.ensures }
 
 pub returns-then-not-some : goal.returns-then-not-some
 returns-then-not-some c =

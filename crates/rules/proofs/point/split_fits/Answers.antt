@@ -28,23 +28,19 @@ returns c =
     let taken = other in
     let said = taken in
     let own = said in
-    let told = said.sides-said.ensures in
-    let left = told.1 in
     let row = own.own-row.ensures in record { value = c.both_sides.ensures
           ∙ both-fit _ _ _ _ _ _ _
-          (split-side _ _ _ _ _ (rw row at (ap (λ (s : Split). s.yes) told.0)) (rw row at left.0) taken.side-taken.ensures)
-          (split-side _ _ _ _ _ (rw row at (ap (λ (s : Split). s.no) told.0)) (rw row at left.1.0) other.side-other.ensures); marks_after = rw row at left.1.1 }
+          (split-side _ _ _ _ _ (rw row at (ap (λ (s : Split). s.yes) said.sides-said.ensures.value)) (rw row at said.sides-said.ensures.yes_after) taken.side-taken.ensures)
+          (split-side _ _ _ _ _ (rw row at (ap (λ (s : Split). s.no) said.sides-said.ensures.value)) (rw row at said.sides-said.ensures.no_after) other.side-other.ensures); marks_after = rw row at said.sides-said.ensures.marks_after }
 
 pub side-taken-requires : goal.side-taken-requires
 side-taken-requires c =
     let said = c in
     let own = said in
-    let pre = own.pre in
-    (pre.0, (left said true said.sides-said.ensures.yes_after.0, pre.1.1.0))
+    (own.requires.rows, (left said true said.sides-said.ensures.yes_after, own.requires.y_bound.0))
 
 pub side-other-requires : goal.side-other-requires
 side-other-requires c =
     let said = c in
     let own = said in
-    let pre = own.pre in
-    (pre.0, (left said false said.sides-said.ensures.yes_after.1.0, pre.1.1.1))
+    (own.requires.rows, (left said false said.sides-said.ensures.no_after, own.requires.y_bound.1))

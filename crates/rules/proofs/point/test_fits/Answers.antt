@@ -13,8 +13,8 @@ returns-in-Compare c =
     let second = read in
     let first = second in
     let under = first in
-    test-bare _ _ _ _ _ _ _ _ _ _ under.requires.whole.1.0 under.bare-under.ensures first.other_if-yes.ensures second.other_if-no.ensures
-    (compared_at _ _ _ _ _ _ _ _ _ read.shape_at-shape.ensures arm.shape-1.given.1 done.compared_fits.ensures)
+    test-bare _ _ _ _ _ _ _ _ _ _ under.requires.nodes_value under.bare-under.ensures first.other_if-yes.ensures second.other_if-no.ensures
+    (compared_at _ _ _ _ _ _ _ _ _ read.shape_at-shape.ensures arm.in-Compare.is done.compared_fits.ensures)
 
 pub returns-in_default : goal.returns-in_default
 returns-in_default c =
@@ -22,22 +22,18 @@ returns-in_default c =
     let second = done in
     let first = second in
     let under = first in
-    test-bare _ _ _ _ _ _ _ _ _ _ under.requires.whole.1.0 under.bare-under.ensures first.other_if-yes.ensures second.other_if-no.ensures done.split_fits.ensures
+    test-bare _ _ _ _ _ _ _ _ _ _ under.requires.nodes_value under.bare-under.ensures first.other_if-yes.ensures second.other_if-no.ensures done.split_fits.ensures
 
 pub compared_fits-requires : goal.compared_fits-requires
 compared_fits-requires c =
     let second = c in
     let first = second in
-    let pre = first.requires in
-    let ends = pre.1.1.1 in
     let most = picked-most first.bare-under.result.turned _ _ first.other_if-yes.ensures second.other_if-no.ensures in
-    (pre.0, (pre.1.0, (omega arith, omega arith)))
+    (first.requires.rows, (first.requires.whole, (omega arith, omega arith)))
 
 pub split_fits-requires : goal.split_fits-requires
 split_fits-requires c =
     let second = c in
     let first = second in
-    let pre = first.requires in
-    let ends = pre.1.1.1 in
     let most = picked-most first.bare-under.result.turned _ _ first.other_if-yes.ensures second.other_if-no.ensures in
-    (pre.0, (pre.1.0, (omega arith, omega arith)))
+    (first.requires.rows, (first.requires.whole, (omega arith, omega arith)))

@@ -3,7 +3,7 @@
 use Prim.Native.Nat.{◌+◌, ◌-◌}
 use mathlib.Core.Path.{◌≡◌}
 use native.Mathlib.Omega.{arith}
-use Rattle.words.proofs.Bools.{fails-not, holds_not}
+use Rattle.words.proofs.Bools.{fails, holds}
 use Rattle.words.proofs.FirstLaws.{stop, done}
 use Rattle.rules.specs.Proposal.{lows_from}
 use Rattle.rules.specs.Rules.{rule9}
@@ -27,14 +27,14 @@ returns-then-not-ends_ok c =
     let turn = c in
     let sizes = turn in
     rw (← sizes.intervals-count.ensures.value, sizes.lows_from-ends.ensures.value)
-    (stop turn.loop-k.invariant (omega (arith, turn.loop-k-test.true)) (fails-not tested c.if-not-ends_ok.true))
+    (stop turn.loop-k.invariant (omega (arith, turn.loop-k-test.true)) (fails tested c.if-not-ends_ok.true))
 
 pub loop-k-preserved : goal.loop-k-preserved
 loop-k-preserved c =
     let tested : let loop = c in let a = loop.args in c.ends_ok.result ≡ rule9 a.t.now a.w.now (lows_from a.t.now a.w.now + loop.loop-k.k) =
         let highs = c in tested-end _ _ _ c.ends_ok.ensures highs.lows-low.ensures highs.highs-high.ensures in
     let turn = c in
-    ends_next _ _ _ turn.loop-k.invariant turn.loop-k-test.true (holds_not tested c.if-not-ends_ok.false)
+    ends_next _ _ _ turn.loop-k.invariant turn.loop-k-test.true (holds tested c.if-not-ends_ok.false)
 
 pub returns : goal.returns
 returns c =

@@ -82,7 +82,7 @@ number_in-requires c =
     let below : let a = c.args in c.loop-i.i < lows_from a.t.now a.w.now =
         rw c.lows_from-ends.ensures.value at c.loop-i-test.true in
     let inside : c.loop-i.i + 2 < length c.args.w.now =
-        early-there c.pre.0 (head-inside c.loop-i.invariant below) in
+        early-there c.requires.bounded (head-inside c.loop-i.invariant below) in
     omega (arith, inside)
 
 pub number_in-requires-in-loop-i : goal.number_in-requires-in-loop-i
@@ -90,7 +90,7 @@ number_in-requires-in-loop-i c =
     let below : let a = c.args in c.loop-i.i < lows_from a.t.now a.w.now =
         rw c.lows_from-ends.ensures.value at c.loop-i-test.true in
     let inside : c.loop-i.i + 2 < length c.args.w.now =
-        early-there c.pre.0 (head-inside c.loop-i.invariant below) in
+        early-there c.requires.bounded (head-inside c.loop-i.invariant below) in
     omega (arith, inside)
 
 pub number_in-requires-in-loop-i-2 : goal.number_in-requires-in-loop-i-2
@@ -98,7 +98,7 @@ number_in-requires-in-loop-i-2 c =
     let below : let a = c.args in c.loop-i.i < lows_from a.t.now a.w.now =
         rw c.lows_from-ends.ensures.value at c.loop-i-test.true in
     let inside : c.loop-i.i + 2 < length c.args.w.now =
-        early-there c.pre.0 (head-inside c.loop-i.invariant below) in
+        early-there c.requires.bounded (head-inside c.loop-i.invariant below) in
     inside
 
 pub returns : goal.returns

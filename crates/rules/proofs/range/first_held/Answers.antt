@@ -3,7 +3,7 @@
 use Prim.Native.Nat.{◌-◌}
 use mathlib.Core.Path.{◌≡◌, sym, ◌∙◌}
 use native.Mathlib.Omega.{arith}
-use Rattle.words.proofs.Bools.{fails-not, holds_not}
+use Rattle.words.proofs.Bools.{fails, holds}
 use Rattle.words.proofs.FirstLaws.{next, stop, done}
 use Rattle.words.proofs.Signed.{read_back}
 use Rattle.rules.specs.Rules.{rule9}
@@ -21,7 +21,7 @@ returns-then-not-held_ok c =
         ∙ sym (held_word _ _ _ turn.loop-i.invariant.0 (rw heads.heads_from-heads.ensures.value at turn.loop-i-test.true)) in
     let turn = c in
     rw (← turn.heads_from-heads.ensures.value)
-    (stop turn.loop-i.invariant.1 turn.loop-i-test.true (fails-not tested c.if-not-held_ok.true))
+    (stop turn.loop-i.invariant.1 turn.loop-i-test.true (fails tested c.if-not-held_ok.true))
 
 pub loop-i-preserved : goal.loop-i-preserved
 loop-i-preserved c =
@@ -33,7 +33,7 @@ loop-i-preserved c =
         ∙ sym (held_word _ _ _ turn.loop-i.invariant.0 (rw heads.heads_from-heads.ensures.value at turn.loop-i-test.true)) in
     let turn = c in
     let inv = turn.loop-i.invariant in
-    (omega (arith, inv.0), next inv.1 turn.loop-i-test.true (holds_not tested c.if-not-held_ok.false))
+    (omega (arith, inv.0), next inv.1 turn.loop-i-test.true (holds tested c.if-not-held_ok.false))
 
 pub set_count-sets-requires : goal.set_count-sets-requires
 set_count-sets-requires c =

@@ -3,7 +3,7 @@
 use Prim.Native.Nat.{◌-◌, ◌≤◌}
 use mathlib.Core.Path.{◌≡◌}
 use native.Mathlib.Omega.{arith}
-use Rattle.words.proofs.Bools.{fails-not, holds_not}
+use Rattle.words.proofs.Bools.{fails, holds}
 use Rattle.table.specs.Layout.{sizes_of}
 use Rattle.rules.specs.Rules.{rule16}
 use Rattle.rules.specs.Ready.{Parts}
@@ -22,37 +22,37 @@ rest_entry-requires c =
           rows = record { ready = c.requires.ready; lows = lows.lows-all_lows.ensures; highs = c.highs-all_highs.ensures };
         } in
     let past_points : let loop = c in (sizes_of loop.args.t.now).points ≤ loop.loop-place.place =
-        let loop = c in omega (arith, loop.pre.1.0, loop.loop-place.invariant.past) in
+        let loop = c in omega (arith, loop.requires.t_bound.0, loop.loop-place.invariant.past) in
     let points = c in
-    let pre = points.pre in
+    let pre = points.requires in
     record { parts = at-hand; i_bound = omega (arith, points.number_at-points.ensures.value, past_points, c.loop-place-test.true, pre.1.2) }
 
 pub returns-then-not-rest_entry : goal.returns-then-not-rest_entry
 returns-then-not-rest_entry c =
     let past_points : let loop = c in (sizes_of loop.args.t.now).points ≤ loop.loop-place.place =
-        let loop = c in omega (arith, loop.pre.1.0, loop.loop-place.invariant.past) in
+        let loop = c in omega (arith, loop.requires.t_bound.0, loop.loop-place.invariant.past) in
     let tested : let loop = c in let a = loop.args in c.rest_entry.result ≡ rule16 a.t.now a.w.now loop.loop-place.place =
         let points = c in rest-at-entry _ _ _ past_points (rw points.number_at-points.ensures.value at c.rest_entry.ensures) in
     let turn = c in
-    sought turn.loop-place.invariant turn.loop-place-test.true (fails-not tested c.if-not-rest_entry.true)
+    sought turn.loop-place.invariant turn.loop-place-test.true (fails tested c.if-not-rest_entry.true)
 
 pub loop-place-preserved : goal.loop-place-preserved
 loop-place-preserved c =
     let past_points : let loop = c in (sizes_of loop.args.t.now).points ≤ loop.loop-place.place =
-        let loop = c in omega (arith, loop.pre.1.0, loop.loop-place.invariant.past) in
+        let loop = c in omega (arith, loop.requires.t_bound.0, loop.loop-place.invariant.past) in
     let tested : let loop = c in let a = loop.args in c.rest_entry.result ≡ rule16 a.t.now a.w.now loop.loop-place.place =
         let points = c in rest-at-entry _ _ _ past_points (rw points.number_at-points.ensures.value at c.rest_entry.ensures) in
     let turn = c in
-    seeks turn.loop-place.invariant turn.loop-place-test.true (holds_not tested c.if-not-rest_entry.false)
+    seeks turn.loop-place.invariant turn.loop-place-test.true (holds tested c.if-not-rest_entry.false)
 
 pub loop-place-init : goal.loop-place-init
 loop-place-init c =
-    seek c.pre.1.1
+    seek c.requires.t_bound.1
 
 pub overflow_sub-place : goal.overflow_sub-place
 overflow_sub-place c =
     let past_points : let loop = c in (sizes_of loop.args.t.now).points ≤ loop.loop-place.place =
-        let loop = c in omega (arith, loop.pre.1.0, loop.loop-place.invariant.past) in
+        let loop = c in omega (arith, loop.requires.t_bound.0, loop.loop-place.invariant.past) in
     omega (arith, c.number_at-points.ensures.value, past_points)
 
 pub returns : goal.returns

@@ -3,7 +3,7 @@
 use Prim.Native.Nat.{◌-◌, ◌<◌}
 use mathlib.Core.Path.{◌≡◌}
 use native.Mathlib.Omega.{arith}
-use Rattle.words.proofs.Bools.{fails-not, holds_not}
+use Rattle.words.proofs.Bools.{fails, holds}
 use Rattle.table.specs.Layout.{sizes_of}
 use Rattle.rules.specs.Rules.{rule16}
 use Rattle.rules.proofs.PlaceLaws.{seek, seeks, sought, unfound}
@@ -25,7 +25,7 @@ returns-then-not-rest_point c =
     let tested : let a = c.args in c.rest_point.result ≡ rule16 a.t.now a.w.now c.loop-p.p =
         rest-at-point _ _ _ is-point c.rest_point.ensures in
     let turn = c in
-    sought turn.loop-p.invariant turn.loop-p-test.true (fails-not tested c.if-not-rest_point.true)
+    sought turn.loop-p.invariant turn.loop-p-test.true (fails tested c.if-not-rest_point.true)
 
 pub loop-p-preserved : goal.loop-p-preserved
 loop-p-preserved c =
@@ -34,7 +34,7 @@ loop-p-preserved c =
     let tested : let a = c.args in c.rest_point.result ≡ rule16 a.t.now a.w.now c.loop-p.p =
         rest-at-point _ _ _ is-point c.rest_point.ensures in
     let turn = c in
-    seeks turn.loop-p.invariant turn.loop-p-test.true (holds_not tested c.if-not-rest_point.false)
+    seeks turn.loop-p.invariant turn.loop-p-test.true (holds tested c.if-not-rest_point.false)
 
 pub loop-p-init : goal.loop-p-init
 loop-p-init c =

@@ -5,7 +5,7 @@ use mathlib.Core.Path.{◌≡◌, refl, sym, ap, subst, ◌∙◌}
 use native.Mathlib.Omega.{arith}
 use lib.IntN.{ℤ}
 use Rattle.words.specs.Words.{number_of}
-use Rattle.words.proofs.Bools.{fails-not, holds_not}
+use Rattle.words.proofs.Bools.{fails, holds}
 use Rattle.words.proofs.FirstLaws.{check, checks, checked, fails-at}
 use Rattle.words.proofs.Signed.{read_back}
 use Rattle.table.specs.Layout.{sizes_of}
@@ -20,7 +20,7 @@ use Rattle.rules.proofs.rest.rest_entry.Goals as goal
 pub natural-v-requires : goal.natural-v-requires
 natural-v-requires c =
     let there : let a = c.args in let row = row_at a.t.now a.w.now 0 in Readable a.heads.now a.from.now a.to.now row.lows row.highs a.i =
-        let ready = c.requires.parts.rows.ready in readable ready 0 _ c.requires.parts.apart refl refl (omega (arith, ready.passes.points.low)) c.requires.i_bound in
+        readable c.requires.parts.rows.ready 0 _ c.requires.parts.apart refl refl (omega (arith, c.requires.parts.rows.ready.passes.points.low)) c.requires.i_bound in
     subst (λ (z : ℤ). number_of z < 4294967295) (sym (read_back c.word_at.type_inv ∙ c.word_at.ensures)) there.variable
 
 -- the number of the variable's interval in the rest row, which is one of the rows
@@ -36,11 +36,9 @@ rests_at-requires c =
     let index_is : let points = c in let variables = points in let v = variables in let a = variables.args in let size = sizes_of a.t.now in (points.number_at-points.result + c.loop-m.m) * variables.number_at-variables.result + v.natural-v.result ≡ (size.points + c.loop-m.m) * size.variables + head_of a.t.now a.w.now a.i 2 =
         let points = c in let variables = points in same_index _ points.number_at-points.ensures.value variables.number_at-variables.ensures.value variable-is in
     let start = c in
-    let rows = start.pre.0.rows in
-    let ready = rows.ready in
-    let variable = head-variable ready _ start.pre.1 in record { m_bound = omega (arith, is-mutex, ready.bounded.mutexes); k_in_bounds = (
-        low-there ready _ _ variable index_is (omega (arith, is-mutex)) rows.lows,
-        high-there ready _ _ variable index_is (omega (arith, is-mutex)) rows.highs,
+    let variable = head-variable start.requires.parts.rows.ready _ start.requires.i_bound in record { m_bound = omega (arith, is-mutex, start.requires.parts.rows.ready.bounded.mutexes); k_in_bounds = (
+        low-there start.requires.parts.rows.ready _ _ variable index_is (omega (arith, is-mutex)) start.requires.parts.rows.lows,
+        high-there start.requires.parts.rows.ready _ _ variable index_is (omega (arith, is-mutex)) start.requires.parts.rows.highs,
       ) }
 
 pub returns-then-not-rests_at : goal.returns-then-not-rests_at
@@ -67,10 +65,10 @@ returns-then-not-rests_at c =
           variables.number_at-variables.ensures.value,
           variable-is,
         ) at c.rests_at.ensures
-        ∙ entry-tested start.pre.0 _ _ start.pre.1 is-mutex in
+        ∙ entry-tested start.requires.parts _ _ start.requires.i_bound is-mutex in
     let turn = c in
     rw (sym turn.number_at-mutexes.ensures.value)
-    (sym (fails-at _ _ _ turn.loop-m-test.true (fails-not tested c.if-not-rests_at.true)))
+    (sym (fails-at _ _ _ turn.loop-m-test.true (fails tested c.if-not-rests_at.true)))
 
 pub loop-m-preserved : goal.loop-m-preserved
 loop-m-preserved c =
@@ -95,9 +93,9 @@ loop-m-preserved c =
           variables.number_at-variables.ensures.value,
           variable-is,
         ) at c.rests_at.ensures
-        ∙ entry-tested start.pre.0 _ _ start.pre.1 is-mutex in
+        ∙ entry-tested start.requires.parts _ _ start.requires.i_bound is-mutex in
     let turn = c in
-    checks turn.loop-m.invariant turn.loop-m-test.true (holds_not tested c.if-not-rests_at.false)
+    checks turn.loop-m.invariant turn.loop-m-test.true (holds tested c.if-not-rests_at.false)
 
 pub returns : goal.returns
 unfolding rest_entry
@@ -106,19 +104,19 @@ returns c = rw (sym c.number_at-mutexes.ensures.value) (sym (checked c.loop-m.in
 pub word_at-requires : goal.word_at-requires
 word_at-requires c =
     let there : let a = c.args in let row = row_at a.t.now a.w.now 0 in Readable a.heads.now a.from.now a.to.now row.lows row.highs a.i =
-        let ready = c.requires.parts.rows.ready in readable ready 0 _ c.requires.parts.apart refl refl (omega (arith, ready.passes.points.low)) c.requires.i_bound in
+        readable c.requires.parts.rows.ready 0 _ c.requires.parts.apart refl refl (omega (arith, c.requires.parts.rows.ready.passes.points.low)) c.requires.i_bound in
     there.head
 
 pub word_at-a-requires : goal.word_at-a-requires
 word_at-a-requires c =
     let there : let a = c.args in let row = row_at a.t.now a.w.now 0 in Readable a.heads.now a.from.now a.to.now row.lows row.highs a.i =
-        let ready = c.requires.parts.rows.ready in readable ready 0 _ c.requires.parts.apart refl refl (omega (arith, ready.passes.points.low)) c.requires.i_bound in
+        readable c.requires.parts.rows.ready 0 _ c.requires.parts.apart refl refl (omega (arith, c.requires.parts.rows.ready.passes.points.low)) c.requires.i_bound in
     there.low
 
 pub word_at-b-requires : goal.word_at-b-requires
 word_at-b-requires c =
     let there : let a = c.args in let row = row_at a.t.now a.w.now 0 in Readable a.heads.now a.from.now a.to.now row.lows row.highs a.i =
-        let ready = c.requires.parts.rows.ready in readable ready 0 _ c.requires.parts.apart refl refl (omega (arith, ready.passes.points.low)) c.requires.i_bound in
+        readable c.requires.parts.rows.ready 0 _ c.requires.parts.apart refl refl (omega (arith, c.requires.parts.rows.ready.passes.points.low)) c.requires.i_bound in
     there.high
 
 pub loop-m-init : goal.loop-m-init
@@ -134,7 +132,7 @@ overflow_mul-k c =
     let index_is : let points = c in let variables = points in let v = variables in let a = variables.args in let size = sizes_of a.t.now in (points.number_at-points.result + c.loop-m.m) * variables.number_at-variables.result + v.natural-v.result ≡ (size.points + c.loop-m.m) * size.variables + head_of a.t.now a.w.now a.i 2 =
         let points = c in let variables = points in same_index _ points.number_at-points.ensures.value variables.number_at-variables.ensures.value variable-is in
     let index-fits : let points = c in let variables = points in (points.number_at-points.result + c.loop-m.m) * variables.number_at-variables.result + variables.natural-v.result < 4736 =
-        let start = c in let ready = start.pre.0.rows.ready in at_bound ready _ _ (head-variable ready _ start.pre.1) index_is (omega (arith, is-mutex)) in
+        let start = c in at_bound start.requires.parts.rows.ready _ _ (head-variable start.requires.parts.rows.ready _ start.requires.i_bound) index_is (omega (arith, is-mutex)) in
     omega (arith, index-fits)
 
 pub overflow_add-k-in-loop-m : goal.overflow_add-k-in-loop-m
@@ -146,5 +144,5 @@ overflow_add-k-in-loop-m c =
     let index_is : let points = c in let variables = points in let v = variables in let a = variables.args in let size = sizes_of a.t.now in (points.number_at-points.result + c.loop-m.m) * variables.number_at-variables.result + v.natural-v.result ≡ (size.points + c.loop-m.m) * size.variables + head_of a.t.now a.w.now a.i 2 =
         let points = c in let variables = points in same_index _ points.number_at-points.ensures.value variables.number_at-variables.ensures.value variable-is in
     let index-fits : let points = c in let variables = points in (points.number_at-points.result + c.loop-m.m) * variables.number_at-variables.result + variables.natural-v.result < 4736 =
-        let start = c in let ready = start.pre.0.rows.ready in at_bound ready _ _ (head-variable ready _ start.pre.1) index_is (omega (arith, is-mutex)) in
+        let start = c in at_bound start.requires.parts.rows.ready _ _ (head-variable start.requires.parts.rows.ready _ start.requires.i_bound) index_is (omega (arith, is-mutex)) in
     omega (arith, index-fits)

@@ -1,11 +1,12 @@
 -- `rules::rest::rest_point` meets its contract: a point that isn't reached passes, and so does any but an unlock. Assumes nothing.
 use mathlib.Core.Path.{◌≡◌, refl, sym, ◌∙◌}
 use mathlib.Core.Bool.{Bool}
+use borrow.Author.Rules.{rules}
 use Rattle.table.specs.Layout.{points_of}
 use Rattle.table.specs.Decode.{point_of}
 use Rattle.table.specs.declared.Point.{Point}
 use Rattle.table.specs.declared.Point.TheVariants.{End, Assign, Test, Lock}
-use Rattle.words.proofs.Bools.{fails-not, holds_not}
+use Rattle.words.proofs.Bools.{fails}
 use Rattle.rules.specs.Proposal.{held_of, row_at}
 use Rattle.rules.specs.Outcomes.{outcomes_by}
 use Rattle.rules.specs.Rules.{rests, rest_point}
@@ -26,31 +27,74 @@ unlock_rests-requires c =
     let read : let start = c.args in c.point_at-x.result ≡ point_of (points_of start.t.now) start.p =
         rw c.requires.points_value at c.point_at-x.ensures in
     let point = c in
-    let pre = point.requires in
-    let below = pre.1.1 in
-    record { rows = pre.1.0; m_bound = (unlock-names _ _ pre.1.0.ready.passes below (sym read ∙ c.x-1.given.1), below) }
+    record { rows = point.requires.rows; m_bound = (unlock-names _ _ point.requires.rows.ready.passes point.requires.p_bound (sym read ∙ c.in-Unlock.is), point.requires.p_bound) }
 
 pub returns-then-not-is_reached : goal.returns-then-not-is_reached
 returns-then-not-is_reached c =
     let reach = c in
-    not-reached _ _ _ (fails-not (rw reach.held.ensures.value at reach.is_reached.ensures) c.if-not-is_reached.true)
+    not-reached _ _ _ (fails (rw reach.held.ensures.value at reach.is_reached.ensures) c.if-not-is_reached.true)
+
+pub held-requires : goal.held-requires
+unfolding rests
+held-requires c =
+    search rules
+
+pub is_reached-requires : goal.is_reached-requires
+unfolding rests
+is_reached-requires c =
+    search rules
+
+pub point_at-x-requires : goal.point_at-x-requires
+unfolding rests
+point_at-x-requires c =
+    search rules
+
+pub enum_told-1 : goal.enum_told-1
+unfolding rests
+enum_told-1 c =
+    search rules
+
+pub enum_told-in-Assign : goal.enum_told-in-Assign
+unfolding rests
+enum_told-in-Assign c =
+    search rules
+
+pub enum_told-in-Test : goal.enum_told-in-Test
+unfolding rests
+enum_told-in-Test c =
+    search rules
+
+pub enum_told-in-Lock : goal.enum_told-in-Lock
+unfolding rests
+enum_told-in-Lock c =
+    search rules
+
+pub enum_known-x : goal.enum_known-x
+unfolding rests
+enum_known-x c =
+    search rules
 
 pub returns-in-End : goal.returns-in-End
+unfolding rests
 returns-in-End c =
-    at c End c.enum_told-1.given.1 refl
+    at c End c.in-End.is refl
 
 pub returns-in-Assign : goal.returns-in-Assign
+unfolding rests
 returns-in-Assign c =
-    at c (Assign _ _ _) c.enum_told-in-Assign-1.given.1 refl
+    at c (Assign _ _ _) c.in-Assign.is refl
 
 pub returns-in-Test : goal.returns-in-Test
+unfolding rests
 returns-in-Test c =
-    at c (Test _ _ _) c.enum_told-in-Test-1.given.1 refl
+    at c (Test _ _ _) c.in-Test.is refl
 
 pub returns-in-Lock : goal.returns-in-Lock
+unfolding rests
 returns-in-Lock c =
-    at c (Lock _ _) c.enum_told-in-Lock-1.given.1 refl
+    at c (Lock _ _) c.in-Lock.is refl
 
 pub returns-in-Unlock : goal.returns-in-Unlock
+unfolding rests
 returns-in-Unlock c =
-    at c _ c.x-1.given.1 c.unlock_rests.ensures
+    at c _ c.in-Unlock.is c.unlock_rests.ensures

@@ -1,7 +1,7 @@
 -- `rules::rows::meets` meets its contract: the loop is left at the first interval that is empty, or past the last. Assumes nothing.
 use Prim.Native.Nat.{◌-◌}
 use mathlib.Core.Path.{◌≡◌, sym, ◌∙◌}
-use Rattle.words.proofs.Bools.{fails-not, holds_not}
+use Rattle.words.proofs.Bools.{fails, holds}
 use Rattle.words.proofs.FirstLaws.{check, checks, checked}
 use Rattle.words.proofs.Signed.{read_back}
 use Rattle.analysis.specs.Rows.{row_of}
@@ -16,12 +16,11 @@ returns-then-not-overlap c =
         let a-high = b-low in
         let a-low = a-high in
         let turn = c in
-        let pre = turn.pre in
-        meets-is pre.0 pre.1 turn.loop-v-test.taken (read_back a-low.word_at-low.type_inv ∙ a-low.word_at-low.ensures)
+        meets-is turn.requires.ordered turn.requires.ordered_2 turn.loop-v-test.taken (read_back a-low.word_at-low.type_inv ∙ a-low.word_at-low.ensures)
         (read_back a-high.word_at-high.type_inv ∙ a-high.word_at-high.ensures) (read_back b-low.word_at.type_inv ∙ b-low.word_at.ensures)
         (read_back b-high.word_at-in-loop-v.type_inv ∙ b-high.word_at-in-loop-v.ensures) c.overlap.ensures in
     let turn = c in
-    fails-in turn.loop-v.inv turn.loop-v-test.taken (fails-not tested c.if-not-overlap.true)
+    fails-in turn.loop-v.inv turn.loop-v-test.taken (fails tested c.if-not-overlap.true)
 
 pub loop-v-preserved : goal.loop-v-preserved
 loop-v-preserved c =
@@ -31,12 +30,11 @@ loop-v-preserved c =
         let a-high = b-low in
         let a-low = a-high in
         let turn = c in
-        let pre = turn.pre in
-        meets-is pre.0 pre.1 turn.loop-v-test.taken (read_back a-low.word_at-low.type_inv ∙ a-low.word_at-low.ensures)
+        meets-is turn.requires.ordered turn.requires.ordered_2 turn.loop-v-test.taken (read_back a-low.word_at-low.type_inv ∙ a-low.word_at-low.ensures)
         (read_back a-high.word_at-high.type_inv ∙ a-high.word_at-high.ensures) (read_back b-low.word_at.type_inv ∙ b-low.word_at.ensures)
         (read_back b-high.word_at-in-loop-v.type_inv ∙ b-high.word_at-in-loop-v.ensures) c.overlap.ensures in
     let turn = c in
-    checks turn.loop-v.inv turn.loop-v-test.taken (holds_not tested c.if-not-overlap.false)
+    checks turn.loop-v.inv turn.loop-v-test.taken (holds tested c.if-not-overlap.false)
 
 pub loop-v-init : goal.loop-v-init
 loop-v-init c =

@@ -2,7 +2,8 @@
 -- Assumes nothing.
 use Prim.Native.Nat.{◌-◌}
 use mathlib.Core.Path.{◌≡◌, sym, ◌∙◌}
-use Rattle.words.proofs.Bools.{fails-not, holds_not}
+use borrow.Author.Rules.{rules}
+use Rattle.words.proofs.Bools.{fails, holds}
 use Rattle.words.proofs.FirstLaws.{check, checks, checked}
 use Rattle.words.proofs.Signed.{read_back}
 use Rattle.analysis.specs.Rows.{row_of}
@@ -24,8 +25,7 @@ returns-then-not-is_inside c =
         let a-low = b-low in
         let turn = c in
         let args = turn.args in
-        let pre = turn.pre in
-        met-is _ _ _ _ (row_of args.c-lows.now args.c-highs.now) pre.1.1.1 turn.loop-v-test.taken
+        met-is _ _ _ _ (row_of args.c-lows.now args.c-highs.now) turn.requires.variables_value turn.loop-v-test.taken
         (read_back most.max32-low.type_inv
         ∙ rw (read_back a-low.word_at.type_inv ∙ a-low.word_at.ensures, read_back b-low.word_at-in-loop-v.type_inv ∙ b-low.word_at-in-loop-v.ensures) at most.max32-low.ensures)
         (read_back least.min32-high.type_inv
@@ -33,7 +33,7 @@ returns-then-not-is_inside c =
         (read_back c-low.word_at-in-loop-v-4.type_inv ∙ c-low.word_at-in-loop-v-4.ensures) (read_back c-high.word_at-in-loop-v-5.type_inv ∙ c-high.word_at-in-loop-v-5.ensures)
         c.is_inside.ensures in
     let turn = c in
-    fails-in turn.loop-v.inv turn.loop-v-test.taken (fails-not tested c.if-not-is_inside.true)
+    fails-in turn.loop-v.inv turn.loop-v-test.taken (fails tested c.if-not-is_inside.true)
 
 pub loop-v-preserved : goal.loop-v-preserved
 loop-v-preserved c =
@@ -48,8 +48,7 @@ loop-v-preserved c =
         let a-low = b-low in
         let turn = c in
         let args = turn.args in
-        let pre = turn.pre in
-        met-is _ _ _ _ (row_of args.c-lows.now args.c-highs.now) pre.1.1.1 turn.loop-v-test.taken
+        met-is _ _ _ _ (row_of args.c-lows.now args.c-highs.now) turn.requires.variables_value turn.loop-v-test.taken
         (read_back most.max32-low.type_inv
         ∙ rw (read_back a-low.word_at.type_inv ∙ a-low.word_at.ensures, read_back b-low.word_at-in-loop-v.type_inv ∙ b-low.word_at-in-loop-v.ensures) at most.max32-low.ensures)
         (read_back least.min32-high.type_inv
@@ -57,12 +56,64 @@ loop-v-preserved c =
         (read_back c-low.word_at-in-loop-v-4.type_inv ∙ c-low.word_at-in-loop-v-4.ensures) (read_back c-high.word_at-in-loop-v-5.type_inv ∙ c-high.word_at-in-loop-v-5.ensures)
         c.is_inside.ensures in
     let turn = c in
-    checks turn.loop-v.inv turn.loop-v-test.taken (holds_not tested c.if-not-is_inside.false)
+    checks turn.loop-v.inv turn.loop-v-test.taken (holds tested c.if-not-is_inside.false)
 
 pub loop-v-init : goal.loop-v-init
+unfolding row_within_of
 loop-v-init c =
     check
 
+pub word_at-requires : goal.word_at-requires
+unfolding row_within_of
+word_at-requires c =
+    search rules
+
+pub word_at-requires-in-loop-v : goal.word_at-requires-in-loop-v
+unfolding row_within_of
+word_at-requires-in-loop-v c =
+    search rules
+
+pub max32-low-requires : goal.max32-low-requires
+unfolding row_within_of
+max32-low-requires c =
+    search rules
+
+pub word_at-requires-in-loop-v-2 : goal.word_at-requires-in-loop-v-2
+unfolding row_within_of
+word_at-requires-in-loop-v-2 c =
+    search rules
+
+pub word_at-requires-in-loop-v-3 : goal.word_at-requires-in-loop-v-3
+unfolding row_within_of
+word_at-requires-in-loop-v-3 c =
+    search rules
+
+pub min32-high-requires : goal.min32-high-requires
+unfolding row_within_of
+min32-high-requires c =
+    search rules
+
+pub word_at-requires-in-loop-v-4 : goal.word_at-requires-in-loop-v-4
+unfolding row_within_of
+word_at-requires-in-loop-v-4 c =
+    search rules
+
+pub word_at-requires-in-loop-v-5 : goal.word_at-requires-in-loop-v-5
+unfolding row_within_of
+word_at-requires-in-loop-v-5 c =
+    search rules
+
+pub is_inside-requires : goal.is_inside-requires
+unfolding row_within_of
+is_inside-requires c =
+    search rules
+
+pub loop-v-smaller : goal.loop-v-smaller
+unfolding row_within_of
+loop-v-smaller c =
+    search rules
+
 pub returns : goal.returns
+unfolding row_within_of
 returns c =
     sym (checked c.loop-v.invariant c.loop-v-test.false)

@@ -2,7 +2,8 @@
 -- Assumes nothing.
 use Prim.Native.Nat.{◌-◌}
 use mathlib.Core.Path.{◌≡◌, sym, ◌∙◌}
-use Rattle.words.proofs.Bools.{fails-not, holds_not}
+use borrow.Author.Rules.{rules}
+use Rattle.words.proofs.Bools.{fails, holds}
 use Rattle.words.proofs.FirstLaws.{check, checks, checked}
 use Rattle.words.proofs.Signed.{read_back}
 use Rattle.analysis.specs.Rows.{row_of}
@@ -19,12 +20,11 @@ returns-then-not-is_inside c =
         let a-high = b-low in
         let a-low = a-high in
         let turn = c in
-        let pre = turn.pre in
-        lies-is pre.0 pre.1 turn.loop-v-test.taken (read_back a-low.word_at-low.type_inv ∙ a-low.word_at-low.ensures)
+        lies-is turn.requires.ordered turn.requires.ordered_2 turn.loop-v-test.taken (read_back a-low.word_at-low.type_inv ∙ a-low.word_at-low.ensures)
         (read_back a-high.word_at-high.type_inv ∙ a-high.word_at-high.ensures) (read_back b-low.word_at.type_inv ∙ b-low.word_at.ensures)
         (read_back b-high.word_at-in-loop-v.type_inv ∙ b-high.word_at-in-loop-v.ensures) c.is_inside.ensures in
     let turn = c in
-    fails-in turn.loop-v.inv turn.loop-v-test.taken (fails-not tested c.if-not-is_inside.true)
+    fails-in turn.loop-v.inv turn.loop-v-test.taken (fails tested c.if-not-is_inside.true)
 
 pub loop-v-preserved : goal.loop-v-preserved
 loop-v-preserved c =
@@ -34,17 +34,48 @@ loop-v-preserved c =
         let a-high = b-low in
         let a-low = a-high in
         let turn = c in
-        let pre = turn.pre in
-        lies-is pre.0 pre.1 turn.loop-v-test.taken (read_back a-low.word_at-low.type_inv ∙ a-low.word_at-low.ensures)
+        lies-is turn.requires.ordered turn.requires.ordered_2 turn.loop-v-test.taken (read_back a-low.word_at-low.type_inv ∙ a-low.word_at-low.ensures)
         (read_back a-high.word_at-high.type_inv ∙ a-high.word_at-high.ensures) (read_back b-low.word_at.type_inv ∙ b-low.word_at.ensures)
         (read_back b-high.word_at-in-loop-v.type_inv ∙ b-high.word_at-in-loop-v.ensures) c.is_inside.ensures in
     let turn = c in
-    checks turn.loop-v.inv turn.loop-v-test.taken (holds_not tested c.if-not-is_inside.false)
+    checks turn.loop-v.inv turn.loop-v-test.taken (holds tested c.if-not-is_inside.false)
 
 pub loop-v-init : goal.loop-v-init
+unfolding row_within_of
 loop-v-init c =
     check
 
+pub word_at-low-requires : goal.word_at-low-requires
+unfolding row_within_of
+word_at-low-requires c =
+    search rules
+
+pub word_at-high-requires : goal.word_at-high-requires
+unfolding row_within_of
+word_at-high-requires c =
+    search rules
+
+pub word_at-requires : goal.word_at-requires
+unfolding row_within_of
+word_at-requires c =
+    search rules
+
+pub word_at-requires-in-loop-v : goal.word_at-requires-in-loop-v
+unfolding row_within_of
+word_at-requires-in-loop-v c =
+    search rules
+
+pub is_inside-requires : goal.is_inside-requires
+unfolding row_within_of
+is_inside-requires c =
+    search rules
+
+pub loop-v-smaller : goal.loop-v-smaller
+unfolding row_within_of
+loop-v-smaller c =
+    search rules
+
 pub returns : goal.returns
+unfolding row_within_of
 returns c =
     sym (checked c.loop-v.invariant c.loop-v-test.false)

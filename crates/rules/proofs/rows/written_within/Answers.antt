@@ -2,10 +2,11 @@
 -- The ends to be written are handed on by their bits, and read back after the loop. Assumes nothing.
 use Prim.Native.Nat.{◌-◌}
 use mathlib.Core.Path.{◌≡◌, sym, ◌∙◌}
+use borrow.Author.Rules.{rules}
 use mir.Syntax.{w32}
 use mir.Val.{to_z, of_z}
 use mir.Facts.{to_z-of_z}
-use Rattle.words.proofs.Bools.{fails-not, holds_not}
+use Rattle.words.proofs.Bools.{fails, holds}
 use Rattle.words.proofs.FirstLaws.{check, checks, checked}
 use Rattle.words.proofs.Signed.{read_back}
 use Rattle.analysis.specs.Rows.{Row, row_of}
@@ -23,9 +24,8 @@ returns-then-not-is_inside c =
         (to_z w32 (of_z w32 a.last-low)) (to_z w32 (of_z w32 a.last-high)) in
     let in_order : Ordered written.lows written.highs c.args.variables =
         let fits = c.ranges in
-        let pre = c.requires in
         rw (to_z-of_z fits.low, to_z-of_z fits.high, to_z-of_z fits.last-low, to_z-of_z fits.last-high)
-        (written-ordered _ _ _ (written-ordered _ _ _ pre.0 pre.1.0.0) pre.1.0.1) in
+        (written-ordered _ _ _ (written-ordered _ _ _ c.requires.ordered c.requires.high_value.0) c.requires.high_value.1) in
     let tested : let loop = c in let a = loop.before.args in c.is_inside.result ≡ Lies (written loop.before) (row_of a.b-lows.now a.b-highs.now) loop.loop.v =
         let b-high = c in
         let b-low = b-high in
@@ -33,12 +33,12 @@ returns-then-not-is_inside c =
         let low = high in
         let turn = c in
         let start = turn in
-        lies-is in_order start.pre.1.1 turn.loop-v-test.taken (read_back low.written_word-a.type_inv ∙ low.written_word-a.ensures)
+        lies-is in_order start.requires.ordered_2 turn.loop-v-test.taken (read_back low.written_word-a.type_inv ∙ low.written_word-a.ensures)
         (read_back high.written_word-b.type_inv ∙ high.written_word-b.ensures) (read_back b-low.word_at.type_inv ∙ b-low.word_at.ensures)
         (read_back b-high.word_at-in-loop-v.type_inv ∙ b-high.word_at-in-loop-v.ensures) c.is_inside.ensures in
     let turn = c in
     let fits = turn.fits in
-    let fails = fails-in turn.loop-v.inv turn.loop-v-test.taken (fails-not tested c.if-not-is_inside.true) in
+    let fails = fails-in turn.loop-v.inv turn.loop-v-test.taken (fails tested c.if-not-is_inside.true) in
     rw (to_z-of_z fits.low, to_z-of_z fits.high, to_z-of_z fits.last-low, to_z-of_z fits.last-high) at fails
 
 pub loop-v-preserved : goal.loop-v-preserved
@@ -49,9 +49,8 @@ loop-v-preserved c =
         (to_z w32 (of_z w32 a.last-low)) (to_z w32 (of_z w32 a.last-high)) in
     let in_order : Ordered written.lows written.highs c.args.variables =
         let fits = c.ranges in
-        let pre = c.requires in
         rw (to_z-of_z fits.low, to_z-of_z fits.high, to_z-of_z fits.last-low, to_z-of_z fits.last-high)
-        (written-ordered _ _ _ (written-ordered _ _ _ pre.0 pre.1.0.0) pre.1.0.1) in
+        (written-ordered _ _ _ (written-ordered _ _ _ c.requires.ordered c.requires.high_value.0) c.requires.high_value.1) in
     let tested : let loop = c in let a = loop.before.args in c.is_inside.result ≡ Lies (written loop.before) (row_of a.b-lows.now a.b-highs.now) loop.loop.v =
         let b-high = c in
         let b-low = b-high in
@@ -59,11 +58,11 @@ loop-v-preserved c =
         let low = high in
         let turn = c in
         let start = turn in
-        lies-is in_order start.pre.1.1 turn.loop-v-test.taken (read_back low.written_word-a.type_inv ∙ low.written_word-a.ensures)
+        lies-is in_order start.requires.ordered_2 turn.loop-v-test.taken (read_back low.written_word-a.type_inv ∙ low.written_word-a.ensures)
         (read_back high.written_word-b.type_inv ∙ high.written_word-b.ensures) (read_back b-low.word_at.type_inv ∙ b-low.word_at.ensures)
         (read_back b-high.word_at-in-loop-v.type_inv ∙ b-high.word_at-in-loop-v.ensures) c.is_inside.ensures in
     let turn = c in
-    checks turn.loop-v.inv turn.loop-v-test.taken (holds_not tested c.if-not-is_inside.false)
+    checks turn.loop-v.inv turn.loop-v-test.taken (holds tested c.if-not-is_inside.false)
 
 pub returns : goal.returns
 unfolding row_within_of
@@ -72,5 +71,36 @@ returns c =
     rw (to_z-of_z fits.low, to_z-of_z fits.high, to_z-of_z fits.last-low, to_z-of_z fits.last-high) at (sym (checked c.loop-v.invariant c.loop-v-test.false))
 
 pub loop-v-init : goal.loop-v-init
+unfolding row_within_of
 loop-v-init c =
     check
+
+pub written_word-a-requires : goal.written_word-a-requires
+unfolding row_within_of
+written_word-a-requires c =
+    search rules
+
+pub written_word-b-requires : goal.written_word-b-requires
+unfolding row_within_of
+written_word-b-requires c =
+    search rules
+
+pub word_at-requires : goal.word_at-requires
+unfolding row_within_of
+word_at-requires c =
+    search rules
+
+pub word_at-requires-in-loop-v : goal.word_at-requires-in-loop-v
+unfolding row_within_of
+word_at-requires-in-loop-v c =
+    search rules
+
+pub is_inside-requires : goal.is_inside-requires
+unfolding row_within_of
+is_inside-requires c =
+    search rules
+
+pub loop-v-smaller : goal.loop-v-smaller
+unfolding row_within_of
+loop-v-smaller c =
+    search rules

@@ -3,7 +3,7 @@
 use Prim.Native.Nat.{◌-◌, ◌<◌, ◌≤◌}
 use mathlib.Core.Path.{◌≡◌, sym, ◌∙◌}
 use native.Mathlib.Omega.{arith}
-use Rattle.words.proofs.Bools.{fails-not, holds_not}
+use Rattle.words.proofs.Bools.{fails, holds}
 use Rattle.table.specs.Layout.{sizes_of}
 use Rattle.rules.specs.Proposal.{rows_of}
 use Rattle.rules.proofs.PartsLaws.{row-lows-length, row-highs-length}
@@ -16,11 +16,11 @@ holds_start-requires c =
     let is-task : c.loop-u.u < (sizes_of c.args.t.now).tasks =
         rw c.number_at-tasks.ensures.value at c.loop-u-test.true in
     let is-point : c.loop-u.p < (sizes_of c.args.t.now).points =
-        start-below c.pre.0 c.loop-u.invariant is-task in
+        start-below c.requires.passes c.loop-u.invariant is-task in
     let is_row : c.loop-u.p < rows_of c.args.t.now =
         omega (arith, is-point) in
     let turn = c in
-    let pre = turn.pre in
+    let pre = turn.requires in
     let low = row-lows-length pre.1 _ is_row in
     let high = row-highs-length pre.1 _ is_row in
     record { passes = pre.0; t_in_bounds = (rw c.row_lows-low.ensures (omega (arith, low)), rw c.row_highs-high.ensures (omega (arith, high))) }
@@ -30,7 +30,7 @@ returns-then-held-ne0 c =
     let is-task : c.loop-u.u < (sizes_of c.args.t.now).tasks =
         rw c.number_at-tasks.ensures.value at c.loop-u-test.true in
     let turn = c in
-    stops turn.pre.0 turn.loop-u.invariant is-task
+    stops turn.requires.passes turn.loop-u.invariant is-task
     (sym (first_holds _ _ _ (λ e. c.if-held-ne0.true (c.held.ensures.value ∙ e))))
 
 pub returns-then-not-holds_start : goal.returns-then-not-holds_start
@@ -43,7 +43,7 @@ returns-then-not-holds_start c =
         first-free _ _ _ (sym free.held.ensures.value ∙ free.if-held-ne0.false)
         (rw (highs.row_lows-low.ensures, highs.row_highs-high.ensures) at c.holds_start.ensures) in
     let turn = c in
-    stops turn.pre.0 turn.loop-u.invariant is-task (fails-not tested c.if-not-holds_start.true)
+    stops turn.requires.passes turn.loop-u.invariant is-task (fails tested c.if-not-holds_start.true)
 
 pub loop-u-preserved : goal.loop-u-preserved
 loop-u-preserved c =
@@ -57,7 +57,7 @@ loop-u-preserved c =
     let row = c in
     let turn = row in
     let tasks = turn in
-    starts tasks.requires.passes turn.loop-u.invariant is-task (holds_not tested c.if-not-holds_start.false)
+    starts tasks.requires.passes turn.loop-u.invariant is-task (holds tested c.if-not-holds_start.false)
     (rw tasks.shares-of.ensures at c.number_at-p.ensures.value)
 
 pub loop-u-init : goal.loop-u-init
@@ -69,9 +69,9 @@ held-requires c =
     let is-task : c.loop-u.u < (sizes_of c.args.t.now).tasks =
         rw c.number_at-tasks.ensures.value at c.loop-u-test.true in
     let is-point : c.loop-u.p < (sizes_of c.args.t.now).points =
-        start-below c.pre.0 c.loop-u.invariant is-task in
+        start-below c.requires.passes c.loop-u.invariant is-task in
     let point-fits : c.loop-u.p ≤ 4294967295 =
-        omega (arith, is-point, c.pre.1.points) in
+        omega (arith, is-point, c.requires.bounded.points) in
     point-fits
 
 pub row_lows-low-requires : goal.row_lows-low-requires
@@ -79,9 +79,9 @@ row_lows-low-requires c =
     let is-task : c.loop-u.u < (sizes_of c.args.t.now).tasks =
         rw c.number_at-tasks.ensures.value at c.loop-u-test.true in
     let is-point : c.loop-u.p < (sizes_of c.args.t.now).points =
-        start-below c.pre.0 c.loop-u.invariant is-task in
+        start-below c.requires.passes c.loop-u.invariant is-task in
     let point-fits : c.loop-u.p ≤ 4294967295 =
-        omega (arith, is-point, c.pre.1.points) in
+        omega (arith, is-point, c.requires.bounded.points) in
     let turn = c in record { all_value = turn.lows-all_lows.ensures; k_bound = point-fits }
 
 pub row_highs-high-requires : goal.row_highs-high-requires
@@ -89,9 +89,9 @@ row_highs-high-requires c =
     let is-task : c.loop-u.u < (sizes_of c.args.t.now).tasks =
         rw c.number_at-tasks.ensures.value at c.loop-u-test.true in
     let is-point : c.loop-u.p < (sizes_of c.args.t.now).points =
-        start-below c.pre.0 c.loop-u.invariant is-task in
+        start-below c.requires.passes c.loop-u.invariant is-task in
     let point-fits : c.loop-u.p ≤ 4294967295 =
-        omega (arith, is-point, c.pre.1.points) in
+        omega (arith, is-point, c.requires.bounded.points) in
     let turn = c in record { all_value = turn.highs-all_highs.ensures; k_bound = point-fits }
 
 pub overflow_add-p : goal.overflow_add-p
@@ -99,11 +99,11 @@ overflow_add-p c =
     let is-task : c.loop-u.u < (sizes_of c.args.t.now).tasks =
         rw c.number_at-tasks.ensures.value at c.loop-u-test.true in
     let is-point : c.loop-u.p < (sizes_of c.args.t.now).points =
-        start-below c.pre.0 c.loop-u.invariant is-task in
+        start-below c.requires.passes c.loop-u.invariant is-task in
     let point-fits : c.loop-u.p ≤ 4294967295 =
-        omega (arith, is-point, c.pre.1.points) in
+        omega (arith, is-point, c.requires.bounded.points) in
     omega (arith, point-fits, c.number_at-p.ensures.upper_bound)
 
 pub returns : goal.returns
 returns c =
-    started c.pre.0 c.loop-u.invariant (rw c.number_at-tasks.ensures.value at c.loop-u-test.false)
+    started c.requires.passes c.loop-u.invariant (rw c.number_at-tasks.ensures.value at c.loop-u-test.false)

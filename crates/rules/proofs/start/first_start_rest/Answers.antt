@@ -3,7 +3,7 @@
 use Prim.Native.Nat.{◌-◌, ◌<◌, ◌≤◌}
 use mathlib.Core.Path.{◌≡◌}
 use native.Mathlib.Omega.{arith}
-use Rattle.words.proofs.Bools.{fails-not, holds_not}
+use Rattle.words.proofs.Bools.{fails, holds}
 use Rattle.rules.specs.Proposal.{rows_of}
 use Rattle.rules.specs.Rules.{rule11}
 use Rattle.rules.proofs.PartsLaws.{row-lows-length, row-highs-length}
@@ -15,7 +15,7 @@ use Rattle.rules.proofs.start.first_start_rest.Goals as goal
 pub holds_start-requires : goal.holds_start-requires
 holds_start-requires c =
     let is_row : c.loop-place.place < rows_of c.args.t.now =
-        omega (arith, c.loop-place-test.true, c.requires.bounded.1.2) in
+        omega (arith, c.loop-place-test.true, c.requires.t_bound.2) in
     let turn = c in
     let pre = turn.requires in
     let low = row-lows-length pre.1.0 _ is_row in
@@ -27,39 +27,39 @@ returns-then-not-holds_start c =
     let tested : let turn = c in let a = turn.args in c.holds_start.result ≡ rule11 a.t.now a.w.now turn.loop-place.place =
         let highs = c in
         let turn = highs in
-        start-at-rest _ _ _ (omega (arith, turn.requires.bounded.1.0, turn.loop-place.invariant.past))
+        start-at-rest _ _ _ (omega (arith, turn.requires.t_bound.0, turn.loop-place.invariant.past))
         (rw (highs.row_lows-low.ensures, highs.row_highs-high.ensures) at c.holds_start.ensures) in
     let turn = c in
-    sought turn.loop-place.invariant turn.loop-place-test.true (fails-not tested c.if-not-holds_start.true)
+    sought turn.loop-place.invariant turn.loop-place-test.true (fails tested c.if-not-holds_start.true)
 
 pub loop-place-preserved : goal.loop-place-preserved
 loop-place-preserved c =
     let tested : let turn = c in let a = turn.args in c.holds_start.result ≡ rule11 a.t.now a.w.now turn.loop-place.place =
         let highs = c in
         let turn = highs in
-        start-at-rest _ _ _ (omega (arith, turn.requires.bounded.1.0, turn.loop-place.invariant.past))
+        start-at-rest _ _ _ (omega (arith, turn.requires.t_bound.0, turn.loop-place.invariant.past))
         (rw (highs.row_lows-low.ensures, highs.row_highs-high.ensures) at c.holds_start.ensures) in
     let turn = c in
-    seeks turn.loop-place.invariant turn.loop-place-test.true (holds_not tested c.if-not-holds_start.false)
+    seeks turn.loop-place.invariant turn.loop-place-test.true (holds tested c.if-not-holds_start.false)
 
 pub loop-place-init : goal.loop-place-init
 loop-place-init c =
-    seek c.requires.bounded.1.1
+    seek c.requires.t_bound.1
 
 pub row_lows-low-requires : goal.row_lows-low-requires
 row_lows-low-requires c =
     let is_row : c.loop-place.place < rows_of c.args.t.now =
-        omega (arith, c.loop-place-test.true, c.requires.bounded.1.2) in
+        omega (arith, c.loop-place-test.true, c.requires.t_bound.2) in
     let place-fits : c.loop-place.place ≤ 4294967295 =
-        let bounded = c.requires.bounded.0 in omega (arith, is_row, bounded.points, bounded.mutexes) in
+        let bounded = c.requires.bounded in omega (arith, is_row, bounded.points, bounded.mutexes) in
     record { all_value = c.lows-all_lows.ensures; k_bound = place-fits }
 
 pub row_highs-high-requires : goal.row_highs-high-requires
 row_highs-high-requires c =
     let is_row : c.loop-place.place < rows_of c.args.t.now =
-        omega (arith, c.loop-place-test.true, c.requires.bounded.1.2) in
+        omega (arith, c.loop-place-test.true, c.requires.t_bound.2) in
     let place-fits : c.loop-place.place ≤ 4294967295 =
-        let bounded = c.requires.bounded.0 in omega (arith, is_row, bounded.points, bounded.mutexes) in
+        let bounded = c.requires.bounded in omega (arith, is_row, bounded.points, bounded.mutexes) in
     record { all_value = c.highs-all_highs.ensures; k_bound = place-fits }
 
 pub returns : goal.returns

@@ -3,7 +3,7 @@
 use Prim.Native.Nat.{◌-◌, ◌<◌}
 use mathlib.Core.Path.{◌≡◌, sym, ◌∙◌}
 use native.Mathlib.Omega.{arith}
-use Rattle.words.proofs.Bools.{fails-not, holds_not}
+use Rattle.words.proofs.Bools.{fails, holds}
 use Rattle.words.proofs.FirstLaws.{check, checks, checked, fails-at}
 use Rattle.words.proofs.Signed.{read_back}
 use Rattle.table.specs.Layout.{sizes_of}
@@ -23,7 +23,7 @@ loop-v-preserved c =
         value-within start.before.starts.result.now (row_of args.lows.now args.highs.now) _ (read_back value.word_at-z.type_inv ∙ value.word_at-z.ensures)
         (read_back low.word_at.type_inv ∙ low.word_at.ensures) (read_back high.word_at-in-loop-v.type_inv ∙ high.word_at-in-loop-v.ensures) c.is_inside.ensures in
     let turn = c in
-    checks turn.loop-v.inv turn.loop-v-test.taken (holds_not tested c.if-not-is_inside.false)
+    checks turn.loop-v.inv turn.loop-v-test.taken (holds tested c.if-not-is_inside.false)
 
 pub returns-then-not-is_inside : goal.returns-then-not-is_inside
 unfolding holds_start
@@ -39,7 +39,7 @@ returns-then-not-is_inside c =
     let turn = c in
     let start = turn in
     rw (sym start.starts-values.ensures, sym start.number_at-variables.ensures.value)
-    (sym (fails-at _ _ _ turn.loop-v-test.taken (fails-not tested c.if-not-is_inside.true)))
+    (sym (fails-at _ _ _ turn.loop-v-test.taken (fails tested c.if-not-is_inside.true)))
 
 pub returns : goal.returns
 unfolding holds_start

@@ -23,5 +23,5 @@ returns-else-is_error c =
     let word = c.word_of in
     let went = c in
     let f = went.ranges in
-    tell-went (ok64 _ c.code_of_lem.type_inv) _ (tested f.y went.is_error.ensures went.if-is_error.false) _
-    (c.code_of_lem.ensures ∙ ap truth_number (rw (to_z-of_z f.a, handed32 word.ensures word.type_inv, to_z-of_z f.y) at compared.ensures))
+    tell-went (ok64 _ c.code_of.type_inv) _ (tested f.y went.is_error.ensures went.if-is_error.false) _
+    (c.code_of.ensures ∙ ap truth_number (rw (to_z-of_z f.a, handed32 word.ensures word.type_inv, to_z-of_z f.y) at compared.ensures))

@@ -1,12 +1,30 @@
 -- `run::evaluate::divide` meets its contract: the test of the divisor is the definition's. Assumes nothing.
 use native.Mathlib.Omega.{arith}
+use borrow.Author.Rules.{rules}
 use mir.Facts.{to_z-of_z}
 use Rattle.words.proofs.Bools.{holds, fails}
 use Rattle.interval.proofs.Machine.{ok64}
+use Rattle.table.specs.Meaning.{perform_by}
 use Rattle.run.proofs.CodeLaws.{error-given}
 use Rattle.run.proofs.evaluate.divide.Goals as goal
 
+pub same-requires : goal.same-requires
+unfolding perform_by
+same-requires c =
+    search rules
+
+pub failed-requires : goal.failed-requires
+unfolding perform_by
+failed-requires c =
+    search rules
+
+pub fit-requires : goal.fit-requires
+unfolding perform_by
+fit-requires c =
+    search rules
+
 pub returns-then-same : goal.returns-then-same
+unfolding perform_by
 returns-then-same c =
     let s = c in
     let start = s in
@@ -15,6 +33,7 @@ returns-then-same c =
     rw test (error-given _ 2 start.requires (omega arith) (omega arith) c.failed.ensures c.failed.type_inv)
 
 pub returns-else-same : goal.returns-else-same
+unfolding perform_by
 returns-else-same c =
     let s = c in
     let start = s in

@@ -15,5 +15,5 @@ returns-else-is_error c =
     let told = c in
     let went = told in
     let f = went.ranges.x in
-    truth-went (ok64 _ c.code_of_lem.type_inv) _ (tested f went.is_error.ensures went.if-is_error.false) _
-    (rw (told.is_true.ensures, to_z-of_z f) at c.code_of_lem.ensures)
+    truth-went (ok64 _ c.code_of.type_inv) _ (tested f went.is_error.ensures went.if-is_error.false) _
+    (rw (told.is_true.ensures, to_z-of_z f) at c.code_of.ensures)

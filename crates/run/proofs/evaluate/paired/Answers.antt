@@ -17,5 +17,5 @@ returns-else-is_error c =
     let told = c in
     let went = told in
     let f = went.ranges.y in
-    truth-went (ok64 _ c.code_of_lem.type_inv) _ (tested f went.is_error.ensures went.if-is_error.false) _
-    (c.code_of_lem.ensures ∙ ap truth_number (rw (told.is_true.ensures, to_z-of_z f) at c.pair.ensures))
+    truth-went (ok64 _ c.code_of.type_inv) _ (tested f went.is_error.ensures went.if-is_error.false) _
+    (c.code_of.ensures ∙ ap truth_number (rw (told.is_true.ensures, to_z-of_z f) at c.pair.ensures))

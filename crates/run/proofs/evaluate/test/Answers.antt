@@ -2,21 +2,36 @@
 -- Assumes nothing.
 use borrow.Author.Rules.{rules}
 use borrow.Author.Tests.{ne_eqb}
+use Rattle.table.specs.Decode.{kind_comparison}
 use Rattle.run.proofs.evaluate.test.Goals as goal
 
+pub same-requires : goal.same-requires
+unfolding kind_comparison
+same-requires c =
+    search rules
+
+pub same-requires-in_default : goal.same-requires-in_default
+unfolding kind_comparison
+same-requires-in_default c =
+    search rules
+
 pub returns-in-16 : goal.returns-in-16
+unfolding kind_comparison
 returns-in-16 c =
-    rw c.in_default.keys1 (search rules)
+    rw c.in-16.is (search rules)
 
 pub returns-in-17 : goal.returns-in-17
+unfolding kind_comparison
 returns-in-17 c =
-    rw c.in_default.keys2 (search rules)
+    rw c.in-17.is (search rules)
 
 pub returns-in-18 : goal.returns-in-18
+unfolding kind_comparison
 returns-in-18 c =
-    rw c.in_default.keys3 (search (rules, c.same.ensures))
+    rw c.in-18.is (search (rules, c.same.ensures))
 
 pub returns-in_default : goal.returns-in_default
+unfolding kind_comparison
 returns-in_default c =
-    let (((others, less), at_most), equal) = c.in_default.rest in
+    let (((others, less), at_most), equal) = c.in_default.in_default-own.rest in
     rw (ne_eqb _ _ less, ne_eqb _ _ at_most, ne_eqb _ _ equal) (search (rules, c.same-in_default.ensures))

@@ -5,18 +5,16 @@ use Rattle.run.specs.Run.{played_by, run_of}
 use Rattle.run.proofs.play.run.Goals as goal
 
 pub play-s-requires : goal.play-s-requires
-play-s-requires c = passes _ (sym c.validate-stage.ensures.value ∙ c.enum_told-1.given.1)
+play-s-requires c = passes _ (sym c.validate-stage.ensures.value ∙ c.in-Passed.is)
 
 pub returns-in-Passed : goal.returns-in-Passed
 unfolding run_of played_by
 returns-in-Passed c =
     let told = c in
-    let said = told.validate-stage.ensures in
-    record { value = rw (← said.0, told.enum_told-1.given.1, c.play-s.ensures); stage_value = said.1 }
+    record { value = rw (← told.validate-stage.ensures.value, told.in-Passed.is, c.play-s.ensures); stage_value = told.validate-stage.ensures.result_value }
 
 pub returns-in-Broken : goal.returns-in-Broken
 unfolding run_of played_by
 returns-in-Broken c =
     let told = c in
-    let said = told.validate-stage.ensures in
-    record { value = rw (← said.0, told.enum_told-in-Broken-1.given.1, c.blank-s.ensures); stage_value = said.1 }
+    record { value = rw (← told.validate-stage.ensures.value, told.in-Broken.is, c.blank-s.ensures); stage_value = told.validate-stage.ensures.result_value }

@@ -3,6 +3,7 @@ use Prim.Native.Nat.{◌-◌}
 use mathlib.Core.Path.{refl}
 use borrow.Author.Rules.{rules}
 use Rattle.words.proofs.FillLaws.{fill, fills, filled-whole}
+use Rattle.run.specs.State.{firsts_of}
 use Rattle.run.proofs.start.start_points.Goals as goal
 
 pub loop-u-preserved : goal.loop-u-preserved
@@ -11,9 +12,21 @@ loop-u-preserved c =
     fills turn.loop-u.invariant turn.loop-u-test.true c.point_slot.ensures
 
 pub loop-u-init : goal.loop-u-init
+unfolding firsts_of
 loop-u-init c =
     fill (search rules)
 
+pub point_slot-requires : goal.point_slot-requires
+unfolding firsts_of
+point_slot-requires c =
+    search rules
+
+pub loop-u-smaller : goal.loop-u-smaller
+unfolding firsts_of
+loop-u-smaller c =
+    search rules
+
 pub returns : goal.returns
+unfolding firsts_of
 returns c =
     filled-whole c.loop-u.invariant c.loop-u-test.false refl

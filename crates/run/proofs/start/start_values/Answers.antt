@@ -6,6 +6,7 @@ use Rattle.interval.proofs.MachineArithmetic.{handed32}
 use Rattle.words.specs.Words.{word_of}
 use Rattle.words.specs.Tabulate.{tabulate}
 use Rattle.words.proofs.FillLaws.{fill, fills, filled-whole}
+use Rattle.run.specs.State.{values_of}
 use Rattle.run.proofs.start.start_values.Goals as goal
 
 pub loop-v-preserved : goal.loop-v-preserved
@@ -13,10 +14,27 @@ loop-v-preserved c =
     let turn = c in
     fills turn.loop-v.invariant turn.loop-v-test.true (handed32 c.word.ensures c.word.type_inv)
 
+pub starts-from-requires : goal.starts-from-requires
+unfolding values_of
+starts-from-requires c =
+    search rules
+
 pub loop-v-init : goal.loop-v-init
+unfolding values_of
 loop-v-init c =
     fill (search rules)
 
+pub word-requires : goal.word-requires
+unfolding values_of
+word-requires c =
+    search rules
+
+pub loop-v-smaller : goal.loop-v-smaller
+unfolding values_of
+loop-v-smaller c =
+    search rules
+
 pub returns : goal.returns
+unfolding values_of
 returns c =
     filled-whole c.loop-v.invariant c.loop-v-test.false refl ∙ ap (λ ws. tabulate (word_of ws) 16) c.starts-from.ensures

@@ -15,7 +15,7 @@ assign-requires c =
     let what = c in
     let read = what in
     let loaded = read.requires.0 in
-    let fit = assign-fits loaded.passes _ (sym (stands read loaded.kept) ∙ what.what-1.given.1) in
+    let fit = assign-fits loaded.passes _ (sym (stands read loaded.kept) ∙ what.in-Assign.is) in
     (task-fits, fit.0, fit.1, fit.2, loaded.kept.size)
 
 pub test-requires : goal.test-requires
@@ -25,7 +25,7 @@ test-requires c =
     let what = c in
     let read = what in
     let loaded = read.requires.0 in
-    let fit = test_fits loaded.passes _ (sym (stands read loaded.kept) ∙ what.what-in-Test-1.given.1) in
+    let fit = test_fits loaded.passes _ (sym (stands read loaded.kept) ∙ what.in-Test.is) in
     (task-fits, fit.0, fit.1, fit.2, loaded.kept.size)
 
 pub lock-requires : goal.lock-requires
@@ -35,7 +35,7 @@ lock-requires c =
     let what = c in
     let read = what in
     let loaded = read.requires.0 in
-    let fit = lock-fits loaded.passes _ (sym (stands read loaded.kept) ∙ what.what-in-Lock-1.given.1) in
+    let fit = lock-fits loaded.passes _ (sym (stands read loaded.kept) ∙ what.in-Lock.is) in
     (task-fits, fit.0, fit.1)
 
 pub unlock-requires : goal.unlock-requires
@@ -45,31 +45,31 @@ unlock-requires c =
     let what = c in
     let read = what in
     let loaded = read.requires.0 in
-    let fit = unlock-fits loaded.passes _ (sym (stands read loaded.kept) ∙ what.what-in-Unlock-1.given.1) in
+    let fit = unlock-fits loaded.passes _ (sym (stands read loaded.kept) ∙ what.in-Unlock.is) in
     (task-fits, fit.0, fit.1)
 
 -- ---- what they give
 pub returns-in-End : goal.returns-in-End
-returns-in-End c t k = acts c k (ends _ _ _ _ _ c.enum_told-1.given.1 refl)
+returns-in-End c t k = acts c k (ends _ _ _ _ _ c.in-End.is refl)
 
 pub returns-in-Assign : goal.returns-in-Assign
 returns-in-Assign c t k =
     let what = c in
-    acts what k (assigns _ _ _ _ _ what.what-1.given.1 k (c.assign.ensures _))
+    acts what k (assigns _ _ _ _ _ what.in-Assign.is k (c.assign.ensures _))
 
 pub returns-in-Test : goal.returns-in-Test
 returns-in-Test c t k =
     let what = c in
-    acts what k (tests _ _ _ _ _ what.what-in-Test-1.given.1 k (c.test.ensures _))
+    acts what k (tests _ _ _ _ _ what.in-Test.is k (c.test.ensures _))
 
 pub returns-in-Lock : goal.returns-in-Lock
 returns-in-Lock c t k =
     let what = c in
     let read = what in
-    acts read k (locks _ _ _ _ _ what.what-in-Lock-1.given.1 (ap (λ (s : State). stepped s read.args.at) (c.lock.ensures _ _ _)))
+    acts read k (locks _ _ _ _ _ what.in-Lock.is (ap (λ (s : State). stepped s read.args.at) (c.lock.ensures _ _ _)))
 
 pub returns-in-Unlock : goal.returns-in-Unlock
 returns-in-Unlock c t k =
     let what = c in
     let read = what in
-    acts read k (unlocks _ _ _ _ _ what.what-in-Unlock-1.given.1 (ap (λ (s : State). stepped s read.args.at) (c.unlock.ensures _ _ _)))
+    acts read k (unlocks _ _ _ _ _ what.in-Unlock.is (ap (λ (s : State). stepped s read.args.at) (c.unlock.ensures _ _ _)))

@@ -12,7 +12,7 @@ error_node-requires c =
     (handed-code value.type_inv value.ensures.fact).failed (holds error.is_error.ensures error.if-is_error.true)
 
 pub error_kind-requires : goal.error_kind-requires
-error_kind-requires c = error_node-requires c κs
+error_kind-requires c = error_node-requires c
 
 pub word_of-requires : goal.word_of-requires
 word_of-requires c =

@@ -11,7 +11,7 @@ error_node-requires c =
     (handed-code verity.type_inv verity.ensures.fact).failed (holds error.is_error.ensures error.if-is_error.true)
 
 pub error_kind-requires : goal.error_kind-requires
-error_kind-requires c = error_node-requires c κs
+error_kind-requires c = error_node-requires c
 
 pub returns-then-is_error : goal.returns-then-is_error
 returns-then-is_error c o =

@@ -6,21 +6,24 @@ use Rattle.table.proofs.decode.point_by.Goals as goal
 pub returns-in_default : goal.returns-in_default
 unfolding point_by
 returns-in_default c =
-    let no_key = c.in_default.rest in
-    rw (ne_eqb _ 1 no_key.0.0.0.1, ne_eqb _ 2 no_key.0.0.1, ne_eqb _ 3 no_key.0.1, ne_eqb _ 4 no_key.1)
+    rw (ne_eqb _ 1 c.in_default.in_default-own.rest.0.0.0.1, ne_eqb _ 2 c.in_default.in_default-own.rest.0.0.1, ne_eqb _ 3 c.in_default.in_default-own.rest.0.1, ne_eqb _ 4 c.in_default.in_default-own.rest.1)
 
 pub returns-in-1 : goal.returns-in-1
+unfolding point_by
 returns-in-1 c =
-    rw c.in_default.keys1
+    rw c.in-1.is
 
 pub returns-in-2 : goal.returns-in-2
+unfolding point_by
 returns-in-2 c =
-    rw c.in_default.keys2
+    rw c.in-2.is
 
 pub returns-in-3 : goal.returns-in-3
+unfolding point_by
 returns-in-3 c =
-    rw c.in_default.keys3
+    rw c.in-3.is
 
 pub returns-in-4 : goal.returns-in-4
+unfolding point_by
 returns-in-4 c =
-    rw c.in_default.keys4
+    rw c.in-4.is

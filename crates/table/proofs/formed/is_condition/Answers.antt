@@ -4,12 +4,12 @@ use Rattle.table.proofs.formed.is_condition.Goals as goal
 
 pub returns-in-16-to-22 : goal.returns-in-16-to-22
 returns-in-16-to-22 c =
-    simp (from-geb c.if-k-lt16.false, below-leb c.if-k-lt23.true)
+    simp (from-geb c.in-16-to-22.if-k-lt16-own.false, below-leb c.in-16-to-22.if-k-lt23-own.true)
 
 pub returns-in_default : goal.returns-in_default
 returns-in_default c =
-    simp (below-geb c.if-k-lt16.true)
+    simp (below-geb c.in_default.if-k-lt16-own.true)
 
 pub returns-in_default-2 : goal.returns-in_default-2
 returns-in_default-2 c =
-    simp (from-geb c.if-k-lt23.false, from-leb c.if-k-lt23.false)
+    simp (from-geb c.in_default.if-k-lt23-own.false, from-leb c.in_default.if-k-lt23-own.false)

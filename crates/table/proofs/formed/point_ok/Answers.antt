@@ -36,7 +36,7 @@ returns-in-0 c =
     λ t h. let second = c in
     let first = second in
     let arm = first in
-    point-counted t _ _ _ words (keyed arm.in_default-1.keys1)
+    point-counted t _ _ _ words (keyed arm.in-0.in-0-own.keys1)
     (in-turn (tested first.is_unused.ensures) (in-turn (tested second.is_unused-in-0.ensures) (tested c.is_unused-in-0-2.ensures)))
 
 pub returns-in-1 : goal.returns-in-1
@@ -47,7 +47,7 @@ returns-in-1 c =
     λ t h. let second = c in
     let first = second in
     let arm = first in
-    point-counted t _ _ _ words (keyed arm.in_default-1.keys2)
+    point-counted t _ _ _ words (keyed arm.in-1.in-1-own.keys2)
     (in-turn (tested (ap₂ ltb first.number.ensures.value h.variables))
     (in-turn (rw h.nodes at second.uses_arithmetic.ensures) (tested (c.is_target.ensures ∙ h.targets _))))
 
@@ -59,7 +59,7 @@ returns-in-2 c =
     λ t h. let second = c in
     let first = second in
     let arm = first in
-    point-counted t _ _ _ words (keyed arm.in_default-1.keys3)
+    point-counted t _ _ _ words (keyed arm.in-2.in-2-own.keys3)
     (in-turn (rw h.nodes at first.uses_condition.ensures)
     (in-turn (tested (second.is_target-in-2.ensures ∙ h.targets _)) (tested (c.is_target-in-2-2.ensures ∙ h.targets _))))
 
@@ -74,7 +74,7 @@ returns-in-3-to-4 c =
     let rest = arm in
     let z = to_z w32 (of_z w32 rest.four-x.result.kind) in
     point-counted t _ _ _ words
-    (mutex-fields (from-three _ rest.in_default-1.rest) (number-within z 0 5 arm.if-kind-lt0.false arm.if-kind-lt5.true))
+    (mutex-fields (from-three _ rest.in-3-to-4.in_default-own.rest) (number-within z 0 5 arm.in-3-to-4.if-kind-lt0-own.false arm.in-3-to-4.if-kind-lt5-own.true))
     (in-turn (tested (ap₂ ltb first.number-in-3-to-4.ensures.value h.mutexes))
     (in-turn (tested (second.is_target-in-3-to-4.ensures ∙ h.targets _)) (tested c.is_unused-in-3-to-4.ensures)))
 
@@ -84,11 +84,11 @@ unfolding fits_of
 returns-in_default c =
     let words : back c.four-x.result ≡ four_of c.args.points.now c.args.p =
         let fits = c.struct_told-1.given in read-four fits.0.1 fits.1.0.1 fits.1.1.0.1 fits.1.1.1.0.1 ∙ c.four-x.ensures in
-    λ t h. point-counted t _ _ _ words (past-point (number-negative _ c.if-kind-lt0.true (lit< tt))) failed
+    λ t h. point-counted t _ _ _ words (past-point (number-negative _ c.in_default.if-kind-lt0-own.true (lit< tt))) failed
 
 pub returns-in_default-2 : goal.returns-in_default-2
 unfolding fits_of
 returns-in_default-2 c =
     let words : back c.four-x.result ≡ four_of c.args.points.now c.args.p =
         let fits = c.struct_told-1.given in read-four fits.0.1 fits.1.0.1 fits.1.1.0.1 fits.1.1.1.0.1 ∙ c.four-x.ensures in
-    λ t h. point-counted t _ _ _ words (past-point (number-from _ 5 c.if-kind-lt5.false)) failed
+    λ t h. point-counted t _ _ _ words (past-point (number-from _ 5 c.in_default.if-kind-lt5-own.false)) failed

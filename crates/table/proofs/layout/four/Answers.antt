@@ -12,5 +12,6 @@ returns-then-n-ws c =
     (read-four kind.result-1.given c.result-then-n-ws-1.given c.result-then-n-ws-2-1.given c.result-then-n-ws-3-1.given)
 
 pub returns-else-n-ws : goal.returns-else-n-ws
+unfolding four_of four_by
 returns-else-n-ws c =
     rw (le-ltb _ _ c.if-n-ws.false)

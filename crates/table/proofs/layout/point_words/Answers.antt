@@ -1,6 +1,19 @@
 -- `table::layout::point_words` meets its contract: the part that was cut, at the sizes of the table. Assumes nothing.
+use borrow.Author.Rules.{rules}
+use Rattle.table.specs.Layout.{points_of}
 use Rattle.table.proofs.layout.point_words.Goals as goal
 
+pub sizes-s-requires : goal.sizes-s-requires
+unfolding points_of
+sizes-s-requires c =
+    search rules
+
+pub part-requires : goal.part-requires
+unfolding points_of
+part-requires c =
+    search rules
+
 pub returns : goal.returns
+unfolding points_of
 returns c =
     cc

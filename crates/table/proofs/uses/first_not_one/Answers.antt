@@ -1,18 +1,18 @@
 -- `table::uses::first_not_one` meets its contract: each count below n is 1, and the loop is left at the first that is not, or past the last. Assumes nothing.
 use Prim.Native.Nat.{◌-◌}
-use Rattle.words.proofs.Bools.{fails-not, holds_not}
+use Rattle.words.proofs.Bools.{fails, holds}
 use Rattle.words.proofs.FirstLaws.{start, next, stop, done}
 use Rattle.table.proofs.uses.first_not_one.Goals as goal
 
 pub returns-then-not-is_one : goal.returns-then-not-is_one
 returns-then-not-is_one c =
     let turn = c in
-    stop turn.loop-n.invariant turn.loop-n-test.true (fails-not c.is_one.ensures c.if-not-is_one.true)
+    stop turn.loop-n.invariant turn.loop-n-test.true (fails c.is_one.ensures c.if-not-is_one.true)
 
 pub loop-n-preserved : goal.loop-n-preserved
 loop-n-preserved c =
     let turn = c in
-    next turn.loop-n.invariant turn.loop-n-test.true (holds_not c.is_one.ensures c.if-not-is_one.false)
+    next turn.loop-n.invariant turn.loop-n-test.true (holds c.is_one.ensures c.if-not-is_one.false)
 
 pub loop-n-init : goal.loop-n-init
 loop-n-init c =

@@ -16,7 +16,7 @@ use Rattle.table.proofs.validate.first_in_task.Goals as goal
 pub loop-p-init : goal.loop-p-init
 loop-p-init c =
     let start = c in
-    (omega arith, task-rise _ start.requires.whole start.requires.t_value.0 start.requires.t_value.1, λ s w. w)
+    (omega arith, task-rise _ start.requires.whole start.requires.t_value start.requires.one_task, λ s w. w)
 
 pub returns-then-not-point_ok : goal.returns-then-not-point_ok
 returns-then-not-point_ok c =
@@ -30,7 +30,7 @@ returns-then-not-point_ok c =
           variables = ap (λ (s : Sizes). s.variables) sizes.sizes-s.ensures.value;
           mutexes = ap (λ (s : Sizes). s.mutexes) sizes.sizes-s.ensures.value;
           nodes = ap (λ (s : Sizes). s.nodes) sizes.sizes-s.ensures.value;
-          targets = task-targets _ start.requires.whole start.requires.t_value.0 start.requires.t_value.1 turn.loop-p.invariant.0 turn.loop-p-test.true;
+          targets = task-targets _ start.requires.whole start.requires.t_value start.requires.one_task turn.loop-p.invariant.0 turn.loop-p-test.true;
         })) in
     let turn = c in
     λ start w. walk-stop (turn.loop-p.invariant.2 start w) counted c.if-not-point_ok.true turn.loop-p-test.true
@@ -47,7 +47,7 @@ loop-p-preserved c =
           variables = ap (λ (s : Sizes). s.variables) sizes.sizes-s.ensures.value;
           mutexes = ap (λ (s : Sizes). s.mutexes) sizes.sizes-s.ensures.value;
           nodes = ap (λ (s : Sizes). s.nodes) sizes.sizes-s.ensures.value;
-          targets = task-targets _ start.requires.whole start.requires.t_value.0 start.requires.t_value.1 turn.loop-p.invariant.0 turn.loop-p-test.true;
+          targets = task-targets _ start.requires.whole start.requires.t_value start.requires.one_task turn.loop-p.invariant.0 turn.loop-p-test.true;
         })) in
     let turn = c in
     (omega arith, omega arith, λ start w. walk-next (turn.loop-p.invariant.2 start w) counted c.if-not-point_ok.false)

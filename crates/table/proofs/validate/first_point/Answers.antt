@@ -42,7 +42,7 @@ loop-u-preserved c =
         c.first_in_task.ensures _ c.loop-u.invariant.2 in
     let call = c in
     let sum = call in
-    (omega arith, rw add-one next-first, rw c.enum_told-1.given.1 at walked)
+    (omega arith, rw add-one next-first, rw c.in_default.is at walked)
 
 pub returns-in-At : goal.returns-in-At
 unfolding first_of first_in
@@ -58,7 +58,7 @@ returns-in-At c =
     let walked : let sum = c in let start = sum in Walked (rule5 start.args.t.now) (point_refs (points_of start.args.t.now)) (sum.loop-u.first + sum.number_at.result) start.args.counts.now c.first_in_task.new.1.1.1.0 c.first_in_task.result =
         c.first_in_task.ensures _ c.loop-u.invariant.2 in
     let call = c in
-    walk-longer (rw c.p-1.given.1 at walked) within
+    walk-longer (rw c.in-At.is at walked) within
 
 pub returns : goal.returns
 unfolding first_of

@@ -1,18 +1,18 @@
 -- `table::validate::first_size` meets its contract: each size below k is within its limits, and the loop is left at the first that is not, or past the last. Assumes nothing.
 use Prim.Native.Nat.{◌-◌}
-use Rattle.words.proofs.Bools.{fails-not, holds_not}
+use Rattle.words.proofs.Bools.{fails, holds}
 use Rattle.words.proofs.FirstLaws.{start, next, stop, done}
 use Rattle.table.proofs.validate.first_size.Goals as goal
 
 pub returns-then-not-size_ok : goal.returns-then-not-size_ok
 returns-then-not-size_ok c =
     stop c.loop-k.invariant c.loop-k-test.true
-    (fails-not c.size_ok.ensures c.if-not-size_ok.true)
+    (fails c.size_ok.ensures c.if-not-size_ok.true)
 
 pub loop-k-preserved : goal.loop-k-preserved
 loop-k-preserved c =
     next c.loop-k.invariant c.loop-k-test.true
-    (holds_not c.size_ok.ensures c.if-not-size_ok.false)
+    (holds c.size_ok.ensures c.if-not-size_ok.false)
 
 pub loop-k-init : goal.loop-k-init
 loop-k-init c =

@@ -44,7 +44,7 @@ returns-in-At c =
         c.args.t.now in
     let shares-searched : let t = table in c.first_share.result ≡ first_bad (share_ok_of (shares_of t)) (sizes_of t).tasks =
         rw (c.shares.ensures, c.sizes-s.ensures.value) at c.first_share.ensures in
-    halt _ (sym shares-searched ∙ c.u-1.given.1)
+    halt _ (sym shares-searched ∙ c.in-At.is)
 
 pub returns-then-first_of-s : goal.returns-then-first_of-s
 unfolding parts_stage
@@ -54,7 +54,7 @@ returns-then-first_of-s c =
     let shares-searched : let t = table in c.first_share.result ≡ first_bad (share_ok_of (shares_of t)) (sizes_of t).tasks =
         rw (c.shares.ensures, c.sizes-s.ensures.value) at c.first_share.ensures in
     let shares-pass : let t = table in first_bad (share_ok_of (shares_of t)) (sizes_of t).tasks ≡ Nothing =
-        sym shares-searched ∙ c.enum_told-1.given.1 in
+        sym shares-searched ∙ c.in_default.is in
     let first = c in
     let sizes = first.sizes-s.ensures.value in
     pass _ shares-pass
@@ -63,12 +63,12 @@ returns-then-first_of-s c =
 pub returns-in-At-first_node : goal.returns-in-At-first_node
 returns-in-At-first_node c =
     let nodes = c in
-    passed3 nodes (halt _ (sym nodes.first_node.ensures.is ∙ c.n-1.given.1))
+    passed3 nodes (halt _ (sym nodes.first_node.ensures.is ∙ c.in-At-first_node.is))
 
 pub returns-in-At-first_point : goal.returns-in-At-first_point
 returns-in-At-first_point c =
     let points = c in
-    passed4 points (halt _ (sym points.first_point.ensures.is ∙ c.p-1.given.1))
+    passed4 points (halt _ (sym points.first_point.ensures.is ∙ c.in-At-first_point.is))
 
 pub returns-in-At-first_not_one : goal.returns-in-At-first_not_one
 returns-in-At-first_not_one c =
@@ -79,11 +79,11 @@ returns-in-At-first_not_one c =
         let nodes = points in
         let sizes = to-sizes nodes in
         uses-first 1024 _ _ _ sizes.before.pre.few (ap (λ (s : Sizes). s.nodes) sizes.sizes.ensures.0)
-        (nodes.first_node.ensures.uses nodes.enum_told-in_default-first_node-1.given.1)
-        (points.first_point.ensures.uses points.enum_told-in_default-first_point-1.given.1)
+        (nodes.first_node.ensures.uses nodes.in_default-first_node.is)
+        (points.first_point.ensures.uses points.in_default-first_point.is)
         c.first_not_one.ensures in
     let uses = c in
-    passed5 uses (halt _ (sym uses-searched ∙ c.n-in-At-first_not_one-1.given.1))
+    passed5 uses (halt _ (sym uses-searched ∙ c.in-At-first_not_one.is))
 
 pub returns : goal.returns
 returns c =
@@ -94,11 +94,11 @@ returns c =
         let nodes = points in
         let sizes = to-sizes nodes in
         uses-first 1024 _ _ _ sizes.before.pre.few (ap (λ (s : Sizes). s.nodes) sizes.sizes.ensures.0)
-        (nodes.first_node.ensures.uses nodes.enum_told-in_default-first_node-1.given.1)
-        (points.first_point.ensures.uses points.enum_told-in_default-first_point-1.given.1)
+        (nodes.first_node.ensures.uses nodes.in_default-first_node.is)
+        (points.first_point.ensures.uses points.in_default-first_point.is)
         c.first_not_one.ensures in
     let uses = c in
-    passed5 uses (pass _ (sym uses-searched ∙ c.enum_told-in_default-first_not_one-1.given.1) refl)
+    passed5 uses (pass _ (sym uses-searched ∙ c.in_default-first_not_one.is) refl)
 
 pub first_point-requires : goal.first_point-requires
 first_point-requires c =

@@ -34,7 +34,7 @@ returns-in-At c =
     let long : leb 5 (length table) ≡ true =
         le-leb _ _ c.if-n-lt5.false in
     let sizes = c in
-    numbered (pass-if _ _ long (halt _ (sym sizes.first_size.ensures ∙ c.k-1.given.1)))
+    numbered (pass-if _ _ long (halt _ (sym sizes.first_size.ensures ∙ c.in-At.is)))
 
 pub returns-then-n-length_for : goal.returns-then-n-length_for
 unfolding sizes_stage
@@ -44,7 +44,7 @@ returns-then-n-length_for c =
     let long : leb 5 (length table) ≡ true =
         le-leb _ _ c.if-n-lt5.false in
     let sized : first_bad (size_ok_of table) 5 ≡ Nothing =
-        sym c.first_size.ensures ∙ c.enum_told-1.given.1 in
+        sym c.first_size.ensures ∙ c.in_default.is in
     let sizes = c in
     numbered (pass-if _ _ long (pass _ sized
     (halt-if _ (ne_eqb _ _ (λ e. c.if-n-length_for.true (e ∙ sym c.length_for.ensures))) refl)))
@@ -57,7 +57,7 @@ returns c =
     let long : leb 5 (length table) ≡ true =
         le-leb _ _ c.if-n-lt5.false in
     let sized : first_bad (size_ok_of table) 5 ≡ Nothing =
-        sym c.first_size.ensures ∙ c.enum_told-1.given.1 in
+        sym c.first_size.ensures ∙ c.in_default.is in
     let whole : Whole table =
         let sizes = c in
         let t = table in
