@@ -13,11 +13,11 @@
 -- Assumes nothing.
 use Prim.Native.Nat.{ℕ, suc, ◌+◌, ◌<◌, ◌≤◌}
 use mathlib.Core.Path.{◌≡◌, refl, sym}
-use mathlib.Core.Bool.{Bool, true, false, not, ◌&&◌}
+use mathlib.Core.Bool.{Bool, true, false, ◌&&◌}
 use mathlib.Core.List.{List, [], ◌∷◌, ◌++◌}
 use native.Mathlib.Numerals.{add-one}
 use native.Mathlib.Omega.{arith}
-use borrow.Author.Tests.{not-true, not-false, lt-ltb, le-ltb}
+use borrow.Author.Tests.{lt-ltb, le-ltb}
 use lib.Dec.{ltb}
 use lib.IntN.{ℤ}
 use Rattle.words.specs.declared.Found.TheVariants.{Nothing, At}
@@ -92,12 +92,10 @@ module _ {ok : ℕ → Bool} {refs : ℕ → List ℕ} {before : List ℕ} where
 
   -- one place more
   module _ {n : ℕ} {counts after : List ℕ} {r : Bool} (w : Walked ok refs n before counts Nothing) (c : Counted (ok n) (refs n) counts after r) where
-    pub walk-next : not r ≡ false → Walked ok refs (n + 1) before after Nothing
+    pub walk-next : r ≡ true → Walked ok refs (n + 1) before after Nothing
     unfolding first_bad or_else unless refs_below
-    walk-next h =
-        let holds = not-false r h in
-        record { is = rw (add-one, ← w.is, ← c.is, holds); uses = λ q. rw (add-one, uses-append, ← w.uses refl) (c.uses holds) }
+    walk-next h = record { is = rw (add-one, ← w.is, ← c.is, h); uses = λ q. rw (add-one, uses-append, ← w.uses refl) (c.uses h) }
 
-    pub walk-stop : {count : ℕ} → not r ≡ true → n < count → Walked ok refs count before after (At n)
+    pub walk-stop : {count : ℕ} → r ≡ false → n < count → Walked ok refs count before after (At n)
     unfolding first_bad or_else unless
-    walk-stop h l = walk_at {n = suc n} (rw (← w.is, ← c.is, not-true r h)) l
+    walk-stop h l = walk_at {n = suc n} (rw (← w.is, ← c.is, h)) l

@@ -17,6 +17,7 @@ use Rattle.table.proofs.LayoutLaws.{back, read-four}
 use Rattle.table.proofs.FormedLaws.{number-from, number-within, number-negative, bits_are, binary-fields, compare-fields, both-fields, between-fields, past-fields}
 use Rattle.table.proofs.WalkLaws.{tested, in-turn, failed, node-counted}
 use Rattle.table.proofs.formed.node_ok.Goals as goal
+use Rattle.table.proofs.formed.node_ok.Goals.{in-9-1, in_default+else-kind-lt0+then-kind-lt8, in_default+else-kind-lt0+else-kind-lt8+else-kind-lt16+then-kind-lt20}
 
 -- the fields of a kind that is a key of the match
 keyed : (a : ℤ) {b m : ℕ} → b ≡ m → node_fields_of (number_of (to_z w32 b)) a ≡ node_fields_of (number_of (to_z w32 m)) a
@@ -149,8 +150,8 @@ returns-in-4-to-7 c =
     let told = arm in
     let z = to_z w32 (of_z w32 told.four-x.result.kind) in
     node-counted t _ _ words
-    (⊎_elim (λ w. keyed _ w.keys5)
-    (⊎_elim (λ w. binary-fields _ (from-four _ w.0.rest.0.0.0) (number-within z 0 8 w.1.left w.2.taken))
-    (λ w. compare-fields _ (number-from z 16 w.3.left) (number-within z 16 20 w.3.left w.4.taken)))
-    arm.in-4-to-7-1.branch)
+    (elim c.in-4-to-7-1.branch [
+      in-9-1 w ↦ keyed _ w.in-9-1.keys5
+      | in_default+else-kind-lt0+then-kind-lt8 w ↦ binary-fields _ (from-four _ w.in_default-1.rest.0.0.0) (number-within z 0 8 w.if-kind-lt0-1.false w.if-kind-lt8-1.true)
+      | in_default+else-kind-lt0+else-kind-lt8+else-kind-lt16+then-kind-lt20 w ↦ compare-fields _ (number-from z 16 w.if-kind-lt16-1.false) (number-within z 16 20 w.if-kind-lt16-1.false w.if-kind-lt20-1.true) ])
     (in-turn first.uses_arithmetic-in-4-to-7.ensures (in-turn second.uses_arithmetic-in-4-to-7-2.ensures (tested c.is_unused-in-4-to-7.ensures)))

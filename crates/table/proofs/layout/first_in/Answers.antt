@@ -5,8 +5,13 @@ use mathlib.Core.Path.{◌≡◌, sym, ap, ◌∙◌}
 use native.Mathlib.Omega.{arith}
 use lib.ListN.{length}
 use Rattle.table.specs.Layout.{first_in}
+use borrow.Author.Rules.{rules}
 use Rattle.table.proofs.LayoutLaws.{first_more, first_past}
 use Rattle.table.proofs.layout.first_in.Goals as goal
+
+pub loop-k-init : goal.loop-k-init
+unfolding first_in
+loop-k-init c = search rules
 
 pub returns-then-u-k : goal.returns-then-u-k
 returns-then-u-k c =

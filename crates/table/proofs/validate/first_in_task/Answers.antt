@@ -20,7 +20,7 @@ loop-p-init c =
 
 pub returns-then-not-point_ok : goal.returns-then-not-point_ok
 returns-then-not-point_ok c =
-    let counted : let turn = c in let t = turn.args.t.now in Counted (rule5 t turn.loop-p.p) (point_refs (points_of t) turn.loop-p.p) turn.loop-p.counts c.point_ok.new.1.1.1.1.0 c.point_ok.result =
+    let counted : let turn = c in let t = turn.args.t.now in Counted (rule5 t turn.loop-p.p) (point_refs (points_of t) turn.loop-p.p) turn.loop-p.counts c.point_ok.new.counts c.point_ok.result =
         let turn = c in
         let points = turn in
         let sizes = points in
@@ -37,7 +37,7 @@ returns-then-not-point_ok c =
 
 pub loop-p-preserved : goal.loop-p-preserved
 loop-p-preserved c =
-    let counted : let turn = c in let t = turn.args.t.now in Counted (rule5 t turn.loop-p.p) (point_refs (points_of t) turn.loop-p.p) turn.loop-p.counts c.point_ok.new.1.1.1.1.0 c.point_ok.result =
+    let counted : let turn = c in let t = turn.args.t.now in Counted (rule5 t turn.loop-p.p) (point_refs (points_of t) turn.loop-p.p) turn.loop-p.counts c.point_ok.new.counts c.point_ok.result =
         let turn = c in
         let points = turn in
         let sizes = points in

@@ -38,7 +38,7 @@ unfolding first_of first_in
 loop-u-preserved c =
     let next-first : let turn = c in turn.loop-u.first + c.number_at.result ≡ first_of turn.args.t.now (suc turn.loop-u.u) =
         let turn = c in rw (turn.loop-u.invariant.1, c.number_at.ensures.value, turn.shares-of.ensures) in
-    let walked : let sum = c in let start = sum in Walked (rule5 start.args.t.now) (point_refs (points_of start.args.t.now)) (sum.loop-u.first + sum.number_at.result) start.args.counts.now c.first_in_task.new.1.1.1.0 c.first_in_task.result =
+    let walked : let sum = c in let start = sum in Walked (rule5 start.args.t.now) (point_refs (points_of start.args.t.now)) (sum.loop-u.first + sum.number_at.result) start.args.counts.now c.first_in_task.new.counts c.first_in_task.result =
         c.first_in_task.ensures _ c.loop-u.invariant.2 in
     let call = c in
     let sum = call in
@@ -55,7 +55,7 @@ returns-in-At c =
         let turn = c in record { task = turn.loop-u.u; there = rw (← many) c.loop-u-test.true; from = turn.loop-u.invariant.1; to = next-first } in
     let within : let turn = c in turn.loop-u.first + c.number_at.result ≤ (sizes_of turn.args.t.now).points =
         let start = c in last_within _ start.requires.whole start.requires.t_value one-task in
-    let walked : let sum = c in let start = sum in Walked (rule5 start.args.t.now) (point_refs (points_of start.args.t.now)) (sum.loop-u.first + sum.number_at.result) start.args.counts.now c.first_in_task.new.1.1.1.0 c.first_in_task.result =
+    let walked : let sum = c in let start = sum in Walked (rule5 start.args.t.now) (point_refs (points_of start.args.t.now)) (sum.loop-u.first + sum.number_at.result) start.args.counts.now c.first_in_task.new.counts c.first_in_task.result =
         c.first_in_task.ensures _ c.loop-u.invariant.2 in
     let call = c in
     walk-longer (rw c.in-At.is at walked) within
@@ -79,4 +79,4 @@ first_in_task-requires c =
         let turn = c in rw (turn.loop-u.invariant.1, c.number_at.ensures.value, turn.shares-of.ensures) in
     let one-task : let turn = c in OneTask turn.args.t.now turn.loop-u.first (turn.loop-u.first + c.number_at.result) =
         let turn = c in record { task = turn.loop-u.u; there = rw (← many) c.loop-u-test.true; from = turn.loop-u.invariant.1; to = next-first } in
-    let start = c in (start.requires.whole, (start.requires.t_value, one-task))
+    record { whole = c.requires.whole; t_value = c.requires.t_value; one_task = one-task }

@@ -27,33 +27,26 @@ from5 t = refuse 5 (first_bad (rule5 t) (sizes_of t).points) (from6 t)
 abbrev from4 : List ℤ → Stage
 from4 t = refuse 4 (first_bad (rule4 t) (sizes_of t).nodes) (from5 t)
 
-passed3 : (c : tie.Else1) {v : Stage} → let t = table (to-sizes (to-shares c)) in v ≡ from4 t → v ≡ parts_stage t
+-- the stage from what is left of it, where the rules before were passed
+passed3 : (t : List ℤ) {v : Stage} → first_bad (share_ok_of (shares_of t)) (sizes_of t).tasks ≡ Nothing → first_of t (sizes_of t).tasks ≡ (sizes_of t).points → v ≡ from4 t → v ≡ parts_stage t
 unfolding parts_stage
-passed3 c q = pass _ (shares-pass (to-shares c)) (pass-if _ _ (eq-eqb _ _ (shares_sum c)) q)
-
-passed4 : (c : tie.After-enum-told2) {v : Stage} → let t = table (to-sizes (to-shares (to-sum c))) in v ≡ from5 t → v ≡ parts_stage t
-passed4 c q = passed3 (to-sum c) (pass _ (sym c.before.before.first-node.ensures.is ∙ c.enum-told2.given.1) q)
-
-passed5 : (c : tie.After-enum-told3) {v : Stage} → let t = table (to-sizes (to-shares (to-sum (to-nodes c)))) in v ≡ from6 t → v ≡ parts_stage t
-passed5 c q = passed4 (to-nodes c) (pass _ (sym c.before.before.first-point.ensures.is ∙ c.enum-told3.given.1) q)
+passed3 t shares sum q = pass _ shares (pass-if _ _ (eq-eqb _ _ sum) q)
 
 pub returns-in-At : goal.returns-in-At
 unfolding parts_stage
 returns-in-At c =
-    let table : List ℤ =
-        c.args.t.now in
-    let shares-searched : let t = table in c.first_share.result ≡ first_bad (share_ok_of (shares_of t)) (sizes_of t).tasks =
+    let t = c.args.t.now in
+    let shares-searched : c.first_share.result ≡ first_bad (share_ok_of (shares_of t)) (sizes_of t).tasks =
         rw (c.shares.ensures, c.sizes-s.ensures.value) at c.first_share.ensures in
     halt _ (sym shares-searched ∙ c.in-At.is)
 
 pub returns-then-first_of-s : goal.returns-then-first_of-s
 unfolding parts_stage
 returns-then-first_of-s c =
-    let table : List ℤ =
-        c.args.t.now in
-    let shares-searched : let t = table in c.first_share.result ≡ first_bad (share_ok_of (shares_of t)) (sizes_of t).tasks =
+    let t = c.args.t.now in
+    let shares-searched : c.first_share.result ≡ first_bad (share_ok_of (shares_of t)) (sizes_of t).tasks =
         rw (c.shares.ensures, c.sizes-s.ensures.value) at c.first_share.ensures in
-    let shares-pass : let t = table in first_bad (share_ok_of (shares_of t)) (sizes_of t).tasks ≡ Nothing =
+    let shares-pass : first_bad (share_ok_of (shares_of t)) (sizes_of t).tasks ≡ Nothing =
         sym shares-searched ∙ c.in_default.is in
     let first = c in
     let sizes = first.sizes-s.ensures.value in
@@ -62,48 +55,51 @@ returns-then-first_of-s c =
 
 pub returns-in-At-first_node : goal.returns-in-At-first_node
 returns-in-At-first_node c =
-    let nodes = c in
-    passed3 nodes (halt _ (sym nodes.first_node.ensures.is ∙ c.in-At-first_node.is))
+    let t = c.args.t.now in
+    let shares-searched : c.first_share.result ≡ first_bad (share_ok_of (shares_of t)) (sizes_of t).tasks =
+        rw (c.shares.ensures, c.sizes-s.ensures.value) at c.first_share.ensures in
+    let shares-pass : first_bad (share_ok_of (shares_of t)) (sizes_of t).tasks ≡ Nothing = sym shares-searched ∙ c.in_default.is in
+    let shares_sum : first_of t (sizes_of t).tasks ≡ (sizes_of t).points = rw c.sizes-s.ensures.value at (sym c.first_of.ensures ∙ c.if-first_of-s.false) in
+    passed3 t shares-pass shares_sum (halt _ (sym c.first_node.ensures.is ∙ c.in-At-first_node.is))
 
 pub returns-in-At-first_point : goal.returns-in-At-first_point
 returns-in-At-first_point c =
-    let points = c in
-    passed4 points (halt _ (sym points.first_point.ensures.is ∙ c.in-At-first_point.is))
+    let t = c.args.t.now in
+    let shares-searched : c.first_share.result ≡ first_bad (share_ok_of (shares_of t)) (sizes_of t).tasks =
+        rw (c.shares.ensures, c.sizes-s.ensures.value) at c.first_share.ensures in
+    let shares-pass : first_bad (share_ok_of (shares_of t)) (sizes_of t).tasks ≡ Nothing = sym shares-searched ∙ c.in_default.is in
+    let shares_sum : first_of t (sizes_of t).tasks ≡ (sizes_of t).points = rw c.sizes-s.ensures.value at (sym c.first_of.ensures ∙ c.if-first_of-s.false) in
+    let nodes-pass : first_bad (rule4 t) (sizes_of t).nodes ≡ Nothing = sym c.first_node.ensures.is ∙ c.in_default-first_node.is in
+    passed3 t shares-pass shares_sum (pass _ nodes-pass (halt _ (sym c.first_point.ensures.is ∙ c.in-At-first_point.is)))
 
 pub returns-in-At-first_not_one : goal.returns-in-At-first_not_one
 returns-in-At-first_not_one c =
-    let table : List ℤ =
-        c.args.t.now in
-    let uses-searched : let t = table (to-sizes (to-shares (to-sum c))) in c.first_not_one.result ≡ first_bad (rule6 t) (sizes_of t).nodes =
-        let points = c in
-        let nodes = points in
-        let sizes = to-sizes nodes in
-        uses-first 1024 _ _ _ sizes.before.pre.few (ap (λ (s : Sizes). s.nodes) sizes.sizes.ensures.0)
-        (nodes.first_node.ensures.uses nodes.in_default-first_node.is)
-        (points.first_point.ensures.uses points.in_default-first_point.is)
-        c.first_not_one.ensures in
-    let uses = c in
-    passed5 uses (halt _ (sym uses-searched ∙ c.in-At-first_not_one.is))
+    let t = c.args.t.now in
+    let shares-searched : c.first_share.result ≡ first_bad (share_ok_of (shares_of t)) (sizes_of t).tasks =
+        rw (c.shares.ensures, c.sizes-s.ensures.value) at c.first_share.ensures in
+    let shares-pass : first_bad (share_ok_of (shares_of t)) (sizes_of t).tasks ≡ Nothing = sym shares-searched ∙ c.in_default.is in
+    let shares_sum : first_of t (sizes_of t).tasks ≡ (sizes_of t).points = rw c.sizes-s.ensures.value at (sym c.first_of.ensures ∙ c.if-first_of-s.false) in
+    let nodes-pass : first_bad (rule4 t) (sizes_of t).nodes ≡ Nothing = sym c.first_node.ensures.is ∙ c.in_default-first_node.is in
+    let points-pass : first_bad (rule5 t) (sizes_of t).points ≡ Nothing = sym c.first_point.ensures.is ∙ c.in_default-first_point.is in
+    let uses-searched : c.first_not_one.result ≡ first_bad (rule6 t) (sizes_of t).nodes =
+        uses-first 1024 _ _ _ c.requires.few (ap (λ (s : Sizes). s.nodes) c.sizes-s.ensures.value)
+        (c.first_node.ensures.uses c.in_default-first_node.is) (c.first_point.ensures.uses c.in_default-first_point.is) c.first_not_one.ensures in
+    passed3 t shares-pass shares_sum (pass _ nodes-pass (pass _ points-pass (halt _ (sym uses-searched ∙ c.in-At-first_not_one.is))))
 
 pub returns : goal.returns
 returns c =
-    let table : List ℤ =
-        c.args.t.now in
-    let uses-searched : let t = table (to-sizes (to-shares (to-sum c))) in c.first_not_one.result ≡ first_bad (rule6 t) (sizes_of t).nodes =
-        let points = c in
-        let nodes = points in
-        let sizes = to-sizes nodes in
-        uses-first 1024 _ _ _ sizes.before.pre.few (ap (λ (s : Sizes). s.nodes) sizes.sizes.ensures.0)
-        (nodes.first_node.ensures.uses nodes.in_default-first_node.is)
-        (points.first_point.ensures.uses points.in_default-first_point.is)
-        c.first_not_one.ensures in
-    let uses = c in
-    passed5 uses (pass _ (sym uses-searched ∙ c.in_default-first_not_one.is) refl)
+    let t = c.args.t.now in
+    let shares-searched : c.first_share.result ≡ first_bad (share_ok_of (shares_of t)) (sizes_of t).tasks =
+        rw (c.shares.ensures, c.sizes-s.ensures.value) at c.first_share.ensures in
+    let shares-pass : first_bad (share_ok_of (shares_of t)) (sizes_of t).tasks ≡ Nothing = sym shares-searched ∙ c.in_default.is in
+    let shares_sum : first_of t (sizes_of t).tasks ≡ (sizes_of t).points = rw c.sizes-s.ensures.value at (sym c.first_of.ensures ∙ c.if-first_of-s.false) in
+    let nodes-pass : first_bad (rule4 t) (sizes_of t).nodes ≡ Nothing = sym c.first_node.ensures.is ∙ c.in_default-first_node.is in
+    let points-pass : first_bad (rule5 t) (sizes_of t).points ≡ Nothing = sym c.first_point.ensures.is ∙ c.in_default-first_point.is in
+    let uses-searched : c.first_not_one.result ≡ first_bad (rule6 t) (sizes_of t).nodes =
+        uses-first 1024 _ _ _ c.requires.few (ap (λ (s : Sizes). s.nodes) c.sizes-s.ensures.value)
+        (c.first_node.ensures.uses c.in_default-first_node.is) (c.first_point.ensures.uses c.in_default-first_point.is) c.first_not_one.ensures in
+    passed3 t shares-pass shares_sum (pass _ nodes-pass (pass _ points-pass (pass _ (sym uses-searched ∙ c.in_default-first_not_one.is) refl)))
 
 pub first_point-requires : goal.first_point-requires
 first_point-requires c =
-    let table : List ℤ =
-        c.args.t.now in
-    let shares_sum : let t = table (to-sizes c) in first_of t (sizes_of t).tasks ≡ (sizes_of t).points =
-        rw (to-sizes c).sizes.ensures.0 at (sym c.first_of.ensures ∙ c.if-first_of-s.false) in
-    let sum = c in record { whole = (to-sizes sum).before.requires; t_value = shares_sum }
+    record { whole = c.requires; t_value = rw c.sizes-s.ensures.value at (sym c.first_of.ensures ∙ c.if-first_of-s.false) }
