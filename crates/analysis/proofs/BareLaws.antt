@@ -60,7 +60,7 @@ alarms-bare (no_cond n) r = refl
 -- ---- a choice
 -- i is the choice's interval on the row r, and m' the marks m with its alarms
 abbrev Chosen : Row → List ℕ → Interval → List ℕ → Cond → Arith → Arith → Type 0
-Chosen r m i m' c x y = (i ≡ value_of (choice 0 c x y) r) × (m' ≡ marked_of m (alarms_of (choice 0 c x y) r))
+Chosen r m i m' c x y = record { value : i ≡ value_of (choice 0 c x y) r; marks_after : m' ≡ marked_of m (alarms_of (choice 0 c x y) r) }
 
 module _ (r : Row) (m : List ℕ) {i : Interval} {m' : List ℕ} where
   -- by the opposite, with its branches the other way round
@@ -69,7 +69,10 @@ module _ (r : Row) (m : List ℕ) {i : Interval} {m' : List ℕ} where
   not_chosen n c x y h =
       let yes = branch_of (decision_of c r) true (narrow_of c true r) in
       let no = branch_of (decision_of c r) false (narrow_of c false r) in
-      (h.0 ∙ laws.lattice.join-comm (range_on yes (value_of y)) (range_on no (value_of x)), h.1 ∙ marked-swap m (cond_alarms_of c r) (alarms_on yes (alarms_of y)) (alarms_on no (alarms_of x)))
+      record {
+        value = h.value ∙ laws.lattice.join-comm (range_on yes (value_of y)) (range_on no (value_of x));
+        marks_after = h.marks_after ∙ marked-swap m (cond_alarms_of c r) (alarms_on yes (alarms_of y)) (alarms_on no (alarms_of x));
+      }
 
   pub bare-chosen : (c : Cond) (x y : Arith) → Chosen r m i m' (bare_of c) (cond (turned_of c) y x) (cond (turned_of c) x y) → Chosen r m i m' c x y
   unfolding bare_of turned_of
@@ -146,24 +149,24 @@ module _ (a : ℕ → Arith) (c : ℕ → Cond) (n : ℕ) where
 module _ (ns : List ℤ) (n : ℕ) where
   -- the node b is that of the condition at n without its 'not', and t whether they turn it
   abbrev pub Bared : ℕ → Bool → Type 0
-  Bared b t = (cond_at ns b ≡ bare_of (cond_at ns n)) × ((t ≡ turned_of (cond_at ns n)) × (b ≤ n))
+  Bared b t = record { node_value : cond_at ns b ≡ bare_of (cond_at ns n); turned_value : t ≡ turned_of (cond_at ns n); node_le_n : b ≤ n }
 
   pub bare-kind : (kind_of ns n ≡ 22 → ⊥) → Bared n false
   unfolding shape_from
-  bare-kind h = rw (cond_of ns n refl) (let is = kind-plain (arith_at ns) (cond_at ns) n (kind_of ns n) _ _ _ _ _ (ne_eqb _ 22 h) in (is.0, (is.1, omega arith)))
+  bare-kind h = rw (cond_of ns n refl) (let is = kind-plain (arith_at ns) (cond_at ns) n (kind_of ns n) _ _ _ _ _ (ne_eqb _ 22 h) in record { node_value = is.0; turned_value = is.1; node_le_n = omega arith })
 
   pub bare-here : {s : Shape} → shape_of ns n ≡ s → OneOf no_not (tag_of the_type s) → Bared n false
-  bare-here {s} e h = rw (cond_of ns n e) (let is = no-not (arith_at ns) (cond_at ns) n s h in (is.0, (is.1, omega arith)))
+  bare-here {s} e h = rw (cond_of ns n e) (let is = no-not (arith_at ns) (cond_at ns) n s h in record { node_value = is.0; turned_value = is.1; node_le_n = omega arith })
 
-  pub bare-below : {x : ℕ} (b : ℕ) {t : Bool} → shape_of ns n ≡ Not x → x < n → (cond_at ns b ≡ bare_of (cond_at ns x)) × ((t ≡ turned_of (cond_at ns x)) × (b ≤ x)) → Bared b (not t)
+  pub bare-below : {x : ℕ} (b : ℕ) {t : Bool} → shape_of ns n ≡ Not x → x < n → record { node_value : cond_at ns b ≡ bare_of (cond_at ns x); turned_value : t ≡ turned_of (cond_at ns x); node_le_n : b ≤ x } → Bared b (not t)
   unfolding cond_by bare_of turned_of
-  bare-below b e lt h = rw (cond_of ns n e) (h.0, (rw h.1.0 refl, omega arith))
+  bare-below b e lt h = rw (cond_of ns n e) (record { node_value = h.node_value; turned_value = rw h.turned_value refl; node_le_n = omega arith })
 
   -- a choice by the condition at n is the choice by that under its 'not', with its branches the other way round if it is turned
   pub bare-choice : (b x y : ℕ) (r : Row) (m : List ℕ) {t : Bool} {v w : ℕ} {i : Interval} {m' : List ℕ} → Bared b t → v ≡ cond t y x → w ≡ cond t x y
       → Chosen r m i m' (cond_at ns b) (arith_at ns v) (arith_at ns w) → Chosen r m i m' (cond_at ns n) (arith_at ns x) (arith_at ns y)
   bare-choice b x y r m {t} h p q done = bare-chosen r m (cond_at ns n) (arith_at ns x) (arith_at ns y) (
-      rw (← h.1.0, ← h.0, ← picked t y x, ← picked t x y, ← p, ← q) done)
+      rw (← h.turned_value, ← h.node_value, ← picked t y x, ← picked t x y, ← p, ← q) done)
     where
       picked : (t : Bool) (x y : ℕ) → arith_at ns (cond t x y) ≡ cond t (arith_at ns x) (arith_at ns y)
       picked true x y = refl

@@ -45,13 +45,16 @@ pub marked-then : (l k : List Alarm) (m : List ℕ) {m' m'' : List ℕ} → m' �
 marked-then l k m p q = rw (marked_append m l k, ← p) q
 
 -- ---- what the walk gives, from the marks m to the marks m'
--- the interval i of the arithmetic node n on the row r
+-- the interval i of the tree t on the row r, and that of the arithmetic node n
+abbrev pub ValuedTree : Arith → Row → List ℕ → Interval → List ℕ → Type 0
+ValuedTree t r m i m' = record { value : i ≡ value_of t r; marks_after : m' ≡ marked_of m (alarms_of t r) }
+
 abbrev pub Valued : List ℤ → Row → ℕ → List ℕ → Interval → List ℕ → Type 0
-Valued ns r n m i m' = (i ≡ value_of (arith_at ns n) r) × (m' ≡ marked_of m (alarms_of (arith_at ns n) r))
+Valued ns r n m i m' = ValuedTree (arith_at ns n) r m i m'
 
 -- the same of a branch of a choice, on the row s, or none
 abbrev pub Branched : List ℤ → Maybe → ℕ → List ℕ → Interval → List ℕ → Type 0
-Branched ns s n m i m' = (i ≡ range_on s (value_of (arith_at ns n))) × (m' ≡ marked_of m (alarms_on s (alarms_of (arith_at ns n))))
+Branched ns s n m i m' = record { value : i ≡ range_on s (value_of (arith_at ns n)); marks_after : m' ≡ marked_of m (alarms_on s (alarms_of (arith_at ns n))) }
 
 -- what a condition says of the row r, asked for the truth w: its decision d; y is what it leaves of the row u where it has that truth, and z what it leaves
 -- of the row v where it hasn't, joined to j
@@ -69,7 +72,7 @@ sides-of c r q m h = h
 
 -- the interval i of the outcome o of an operation at the node n
 abbrev pub Told : ℕ → List ℕ → Computed → Interval → List ℕ → Type 0
-Told n m o i m' = (i ≡ o.range) × (m' ≡ marked_of m (told_of n o))
+Told n m o i m' = record { value : i ≡ o.range; marks_after : m' ≡ marked_of m (told_of n o) }
 
 -- ---- branches
 module _ (ns : List ℤ) (r : Row) (n : ℕ) (m : List ℕ) (t : Bool) where
@@ -79,7 +82,7 @@ module _ (ns : List ℤ) (r : Row) (n : ℕ) (m : List ℕ) (t : Bool) where
 
   pub branch-left-out : t ≡ false → Branched ns (maybe_by t r) n m None m
   unfolding maybe_by range_on alarms_on marked_of
-  branch-left-out e = rw e (refl, refl)
+  branch-left-out e = rw e record { value = refl; marks_after = refl }
 
 -- a branch is taken if the condition allows it and leaves a row
 taken-both : (t u : Bool) (r : Row) → maybe_by (t && u) r ≡ row_if t (maybe_by u r)
@@ -91,49 +94,49 @@ taken-both false u r = refl
 module _ (ns : List ℤ) (r : Row) (n : ℕ) (m : List ℕ) where
   pub constant-valued : {z w : ℤ} → shape_of ns n ≡ Constant z → w ≡ z → Valued ns r n m (Between w w) m
   unfolding arith_by value_of marked_of
-  constant-valued e p = rw (arith-of ns n e, p) (refl, refl)
+  constant-valued e p = rw (arith-of ns n e, p) record { value = refl; marks_after = refl }
 
   pub input-valued : {a b v w h : ℤ} → shape_of ns n ≡ Input a b → v ≡ a → w ≡ b → h ≡ max_z v w → Valued ns r n m (Between v h) m
   unfolding arith_by value_of marked_of
-  input-valued e p q k = rw (arith-of ns n e, k, p, q) (refl, refl)
+  input-valued e p q k = rw (arith-of ns n e, k, p, q) record { value = refl; marks_after = refl }
 
   pub variable-valued : {v : ℕ} {i : Interval} → shape_of ns n ≡ Variable v → i ≡ range_of r v → Valued ns r n m i m
   unfolding arith_by value_of marked_of
-  variable-valued e p = rw (arith-of ns n e) (p, refl)
+  variable-valued e p = rw (arith-of ns n e) (record { value = p; marks_after = refl })
 
   pub negation-valued : {x : ℕ} {i j : Interval} {o : Computed} {m' m'' : List ℕ} → shape_of ns n ≡ Negation x → Valued ns r x m i m' → o ≡ negate_of i → Told n m' o j m'' → Valued ns r n m j m''
   unfolding arith_by value_of
-  negation-valued e h p t = let told = rw (p, h.0) at t in rw (arith-of ns n e) (told.0, marked-then _ _ m h.1 told.1)
+  negation-valued e h p t = let told = rw (p, h.value) at t in rw (arith-of ns n e) (record { value = told.value; marks_after = marked-then _ _ m h.marks_after told.marks_after })
 
   pub binary-valued : {op : Operation} {x y : ℕ} {i j k : Interval} {o : Computed} {m' m'' m''' : List ℕ} → shape_of ns n ≡ Binary op x y → Valued ns r x m i m' → Valued ns r y m' j m'' → o ≡ operate_of op i j → Told n m'' o k m''' → Valued ns r n m k m'''
   unfolding arith_by value_of
-  binary-valued e h l p t = let told = rw (p, h.0, l.0) at t in rw (arith-of ns n e) (told.0, marked-then _ _ m h.1 (marked-then _ _ _ l.1 told.1))
+  binary-valued e h l p t = let told = rw (p, h.value, l.value) at t in rw (arith-of ns n e) (record { value = told.value; marks_after = marked-then _ _ m h.marks_after (marked-then _ _ _ l.marks_after told.marks_after) })
 
   -- a choice's node number stands in neither
-  pub choice-valued : {c x y : ℕ} {k : Interval} {m' : List ℕ} → shape_of ns n ≡ Choice c x y → (k ≡ value_of (choice 0 (cond_at ns c) (arith_at ns x) (arith_at ns y)) r) × (m' ≡ marked_of m (alarms_of (choice 0 (cond_at ns c) (arith_at ns x) (arith_at ns y)) r)) → Valued ns r n m k m'
+  pub choice-valued : {c x y : ℕ} {k : Interval} {m' : List ℕ} → shape_of ns n ≡ Choice c x y → ValuedTree (choice 0 (cond_at ns c) (arith_at ns x) (arith_at ns y)) r m k m' → Valued ns r n m k m'
   unfolding arith_by value_of
   choice-valued e h = rw (arith-of ns n e) h
 
   -- a node that is no arithmetic
   pub no_value : {s : Shape} → shape_of ns n ≡ s → arith_by (arith_at ns) (cond_at ns) n s ≡ no_arith n → Valued ns r n m (Between (pos 0) (pos 0)) m
   unfolding value_of marked_of
-  no_value e p = rw (arith-of ns n e, p) (refl, refl)
+  no_value e p = rw (arith-of ns n e, p) record { value = refl; marks_after = refl }
 
 -- a choice by the condition c, from what that said and from the branches
 chosen_of :
     (ns : List ℤ) (r : Row) (c : Cond) (x y : ℕ) (m : List ℕ) {d : Decision} {s t : Maybe} {i j k : Interval} {m₁ m₂ m₃ : List ℕ}
     → Sides c r m d s t m₁ → Branched ns (row_if d.yes s) x m₁ i m₂ → Branched ns (row_if d.no t) y m₂ j m₃ → k ≡ join_of i j
-    → (k ≡ value_of (choice 0 c (arith_at ns x) (arith_at ns y)) r) × (m₃ ≡ marked_of m (alarms_of (choice 0 c (arith_at ns x) (arith_at ns y)) r))
+    → ValuedTree (choice 0 c (arith_at ns x) (arith_at ns y)) r m k m₃
 unfolding value_of
 chosen_of ns r c x y m h then else l =
-    rw (← h.0, ← h.1.0, ← h.1.1.0, ← then.0, ← else.0) (l, marked-then _ _ m h.1.1.1 (marked-then _ _ _ then.1 else.1))
+    rw (← h.0, ← h.1.0, ← h.1.1.0, ← then.value, ← else.value)
+    (record { value = l; marks_after = marked-then _ _ m h.1.1.1 (marked-then _ _ _ then.marks_after else.marks_after) })
 
 pub chosen :
     (ns : List ℤ) (r : Row) (c x y : ℕ) (m : List ℕ) {d : Decision} (f g : Bool) (u v : Row) {i j k : Interval} {m₁ m₂ m₃ : List ℕ}
     → Sides (cond_at ns c) r m d (maybe_by f u) (maybe_by g v) m₁ → Branched ns (maybe_by (d.yes && f) u) x m₁ i m₂
     → Branched ns (maybe_by (d.no && g) v) y m₂ j m₃ → k ≡ join_of i j
-    → (k ≡ value_of (choice 0 (cond_at ns c) (arith_at ns x) (arith_at ns y)) r)
-    × (m₃ ≡ marked_of m (alarms_of (choice 0 (cond_at ns c) (arith_at ns x) (arith_at ns y)) r))
+    → ValuedTree (choice 0 (cond_at ns c) (arith_at ns x) (arith_at ns y)) r m k m₃
 chosen ns r c x y m {d} f g u v h p q l =
     chosen_of ns r (cond_at ns c) x y m h (rw (taken-both d.yes f u) at p) (rw (taken-both d.no g v) at q) l
 
@@ -142,7 +145,7 @@ chosen ns r c x y m {d} f g u v h p q l =
 module _ (ns : List ℤ) (r : Row) (n v w : ℕ) (u : Cuts) (m : List ℕ) {t : Bool} where
   pub cut-left-out : t ≡ false → Branched ns (row_if t (cut_row_of r v w u)) n m None m
   unfolding row_if range_on alarms_on marked_of
-  cut-left-out e = rw e (refl, refl)
+  cut-left-out e = rw e record { value = refl; marks_after = refl }
 
   pub cut-taken : {s : Maybe} {i : Interval} {m' : List ℕ} → t ≡ true → s ≡ cut_row_of r v w u → Branched ns s n m i m' → Branched ns (row_if t (cut_row_of r v w u)) n m i m'
   unfolding row_if
@@ -154,21 +157,18 @@ pub chosen_by :
     → length r.lows ≤ 16 → length r.highs ≤ 16 → Valued ns r x m i m₁ → Valued ns r y m₁ j m₂ → d ≡ compare_of k i j
     → v ≡ variable_or 16 (arith_at ns x) → w ≡ variable_or 17 (arith_at ns y) → f ≡ cuts_of k true i j → g ≡ cuts_of k false i j
     → Branched ns (row_if d.yes (cut_row_of r v w f)) a m₂ p m₃ → Branched ns (row_if d.no (cut_row_of r v w g)) b m₃ q m₄ → z ≡ join_of p q
-    → (z ≡ value_of (choice 0 (compare 0 k (arith_at ns x) (arith_at ns y)) (arith_at ns a) (arith_at ns b)) r)
-    × (m₄ ≡ marked_of m (alarms_of (choice 0 (compare 0 k (arith_at ns x) (arith_at ns y)) (arith_at ns a) (arith_at ns b)) r))
+    → ValuedTree (choice 0 (compare 0 k (arith_at ns x) (arith_at ns y)) (arith_at ns a) (arith_at ns b)) r m z m₄
 unfolding decision_of
 chosen_by ns r x y a b k m low high h l e v w f g then else o =
     let is : (b : Bool) → narrow_of (compare 0 k (arith_at ns x) (arith_at ns y)) b r ≡ _ = λ b. narrow_cuts 0 k (arith_at ns x) (arith_at ns y) b r low high in
     chosen_of ns r (compare 0 k (arith_at ns x) (arith_at ns y)) a b m
-    (rw (h.0, l.0) at e, (rw (v, w, f, h.0, l.0) (sym (is true)), (rw (v, w, g, h.0, l.0) (sym (is false)), marked-then _ _ m h.1 l.1)))
+    (rw (h.value, l.value) at e, (rw (v, w, f, h.value, l.value) (sym (is true)), (rw (v, w, g, h.value, l.value) (sym (is false)), marked-then _ _ m h.marks_after l.marks_after)))
     then else o
 
 -- the same of the node c that is the comparison
 pub choice-by : (ns : List ℤ) (r : Row) (c a b : ℕ) (m : List ℕ) {k : Comparison} {x y : ℕ} {z : Interval} {m' : List ℕ} → shape_of ns c ≡ Compare k x y
-    → (z ≡ value_of (choice 0 (compare 0 k (arith_at ns x) (arith_at ns y)) (arith_at ns a) (arith_at ns b)) r)
-    × (m' ≡ marked_of m (alarms_of (choice 0 (compare 0 k (arith_at ns x) (arith_at ns y)) (arith_at ns a) (arith_at ns b)) r))
-    → (z ≡ value_of (choice 0 (cond_at ns c) (arith_at ns a) (arith_at ns b)) r)
-    × (m' ≡ marked_of m (alarms_of (choice 0 (cond_at ns c) (arith_at ns a) (arith_at ns b)) r))
+    → ValuedTree (choice 0 (compare 0 k (arith_at ns x) (arith_at ns y)) (arith_at ns a) (arith_at ns b)) r m z m'
+    → ValuedTree (choice 0 (cond_at ns c) (arith_at ns a) (arith_at ns b)) r m z m'
 unfolding cond_by value_of
 choice-by ns r c a b m e h = rw (cond_of ns c e) h
 
@@ -305,7 +305,7 @@ none-wanted n false r = refl
 module _ (ns : List ℤ) (w : Bool) (r u v : Row) (l : Maybe) (n : ℕ) (m : List ℕ) where
   pub compare-splits : {k : Comparison} {x y : ℕ} {i j : Interval} {d : Decision} {s t : Maybe} {m' m'' : List ℕ} → shape_of ns n ≡ Compare k x y → Valued ns r x m i m' → Valued ns r y m' j m'' → (d ≡ compare_of k i j) × ((s ≡ narrow_of (compare 0 k (arith_at ns x) (arith_at ns y)) w u) × (t ≡ join_rows_of l (narrow_of (compare 0 k (arith_at ns x) (arith_at ns y)) (not w) v))) → Splits (cond_at ns n) w r u v l m d s t m''
   unfolding cond_by value_of
-  compare-splits e h g p = rw (cond_of ns n e, ← h.0, ← g.0) (p.0, (p.1.0, (p.1.1, marked-then _ _ m h.1 g.1)))
+  compare-splits e h g p = rw (cond_of ns n e, ← h.value, ← g.value) (p.0, (p.1.0, (p.1.1, marked-then _ _ m h.marks_after g.marks_after)))
 
   pub both-node-splits : {x y : ℕ} {a : Bool} {d : Decision} {s t : Maybe} {m' : List ℕ} → shape_of ns n ≡ Both x y → a ≡ true → Splits (pair_of a (cond_at ns x) (cond_at ns y)) w r u v l m d s t m' → Splits (cond_at ns n) w r u v l m d s t m'
   unfolding cond_by value_of pair_of

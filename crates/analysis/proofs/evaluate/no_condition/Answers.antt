@@ -19,7 +19,7 @@ widen_if-requires c =
 pub returns-then-asked : goal.returns-then-asked
 unfolding maybe_by
 returns-then-asked c =
-    (λ e. clash (sym e), (refl, (refl, add-to _ _ c.if-asked.true c.widen_if.ensures)))
+    record { copy_if = λ e. clash (sym e); decision_value = refl; narrowed_value = refl; joined_after = add-to _ _ c.if-asked.true c.widen_if.ensures }
 
 pub returns : goal.returns
 unfolding maybe_by
@@ -27,4 +27,9 @@ returns c =
     let test = c in
     let start = test in
     let copied = start.requires (ap not test.if-asked.false) in
-    (λ e. copied, (refl, (refl, add-alone (row_in start.args.joined.now) _ test.if-asked.false (ap (λ (ws : List ℤ). maybe_by start.args.asked.truth (row_in ws)) copied))))
+    record {
+      copy_if = λ e. copied;
+      decision_value = refl;
+      narrowed_value = refl;
+      joined_after = add-alone (row_in start.args.joined.now) _ test.if-asked.false (ap (λ (ws : List ℤ). maybe_by start.args.asked.truth (row_in ws)) copied);
+    }

@@ -9,10 +9,9 @@ pub returns : goal.returns
 returns c =
     let no = c in
     let yes = no in
-    let said = sides-of _ _ _ _ yes.split-s.ensures.1 in (
-      split-is _ _ _ _ _ said.0 said.1.0 said.1.1.0,
-      (
-        yes.clear_unless.ensures ∙ ap left_of said.1.0,
-        (no.clear_unless-2.ensures ∙ ap left_of said.1.1.0, said.1.1.1),
-      ),
-    )
+    let said = sides-of _ _ _ _ yes.split-s.ensures.said in record {
+      value = split-is _ _ _ _ _ said.0 said.1.0 said.1.1.0;
+      yes_after = yes.clear_unless.ensures ∙ ap left_of said.1.0;
+      no_after = no.clear_unless-2.ensures ∙ ap left_of said.1.1.0;
+      marks_after = said.1.1.1;
+    }
