@@ -9,7 +9,6 @@ use borrow.Author.Tests.{lt-ltb, le-ltb, eq-eqb, ne_eqb}
 use lib.Dec.{eqb}
 use lib.IntN.{ℤ}
 use lib.ListN.{length}
-use Rattle.interval.specs.declared.Interval.{Interval}
 use Rattle.interval.specs.declared.Interval.TheVariants.{None, Between}
 use Rattle.interval.specs.declared.Cuts.{Cuts}
 use Rattle.table.specs.declared.Shape.TheVariants.{Variable}
@@ -17,7 +16,7 @@ use Rattle.table.specs.Decode.{shape_by, shape_of}
 use Rattle.table.specs.Tree.{arith_by, arith_at, cond_at}
 use Rattle.table.proofs.KindLaws.{shape-all}
 use Rattle.table.proofs.TreeLaws.{arith-of}
-use Rattle.analysis.specs.Rows.{Row, Maybe, none, some, maybe_by, then_row, put_of, meet_at_of, join_rows_of}
+use Rattle.analysis.specs.Rows.{Row, Maybe, some, maybe_by, then_row, put_of, meet_at_of, join_rows_of}
 use Rattle.analysis.specs.Arrays.{row_in}
 use Rattle.analysis.specs.Cuts.{variable_or, cut_row_of, met_if}
 use Rattle.analysis.proofs.CutLaws.{cut-written, cut-first-none}

@@ -1,8 +1,8 @@
 -- What the code of rows needs of their definitions.
 -- Assumes nothing.
-use Prim.Native.Nat.{ℕ, zero, suc, ◌+◌, ◌-◌, ◌<◌, ◌≤◌, zero-le}
+use Prim.Native.Nat.{ℕ, zero, suc, ◌+◌, ◌<◌, ◌≤◌, zero-le}
 use mathlib.Core.Path.{◌≡◌, refl, sym, ap, subst, ◌∙◌}
-use mathlib.Core.Bool.{Bool, true, false}
+use mathlib.Core.Bool.{true}
 use mathlib.Core.List.{List, [], ◌∷◌, ◌++◌, append_assoc}
 use native.Mathlib.Nat.{le_antisymm, zero-add}
 use native.Mathlib.Numerals.{add-one}
@@ -19,7 +19,7 @@ use Rattle.words.specs.First.{all_below}
 use Rattle.words.proofs.FillLaws.{Filled, tabulate-front, length-tabulate, get_d_tabulate}
 use Rattle.words.proofs.FirstLaws.{all_below-each}
 use Rattle.words.proofs.PartLaws.{part-word, part_length}
-use Rattle.analysis.specs.Rows.{Row, row_of, slots_of, own_of, Maybe, none, some, maybe_by, join_rows_of, each, each_rest}
+use Rattle.analysis.specs.Rows.{row_of, slots_of, own_of, Maybe, none, some, maybe_by, join_rows_of, each, each_rest}
 use Rattle.analysis.specs.Arrays.{row_in, outer_of, is_some, left_of}
 
 same_row : {l m h k : List ℤ} → l ≡ m → h ≡ k → row_of l h ≡ row_of m k

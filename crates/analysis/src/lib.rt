@@ -1,6 +1,7 @@
 // The analysis of a tree on a row: the interval of arithmetic, the decision of a condition, their alarms, and the row that a condition of a known
 // truth leaves. A choice reads each branch on the row that its condition leaves for it.
 #![tactic(auto)]
+
 ghost use Rattle.analysis.specs.Laws.{Laws};
 ghost use Rattle.analysis.specs.Examples.{Starred};
 

@@ -1,6 +1,7 @@
 // Interval arithmetic over words (signed 32-bit numbers): a library of its own, above no other crate.
 // An interval whose low end is above its high end counts as none wherever it is handed in.
 #![tactic(auto)]
+
 ghost use Rattle.interval.specs.Laws.{Laws};
 ghost use Rattle.interval.specs.Examples.{Starred};
 

@@ -1,5 +1,6 @@
 // A task table: its layout, what stands at its nodes and points, and refusals 1 to 6.
 #![tactic(auto)]
+
 ghost use Rattle.table.specs.Laws.{Laws};
 ghost use Rattle.table.specs.Examples.{Starred};
 

@@ -1,5 +1,6 @@
 // What every layer reads and refuses with: total reading of words, the smallest failing place, stages of refusals.
 #![tactic(auto)]
+
 ghost use Rattle.std.specs.Prelude.{◌≡◌, ◌≤◌};
 ghost use Rattle.words.specs.Words.{word_of, number_of, number_at, part_of};
 ghost use Rattle.words.specs.Laws.{Laws};

@@ -319,7 +319,7 @@ split_joined-split_apart-requires t c =
 pub split_joined-returns-then-asked : goal.split_joined-returns-then-asked
 unfolding arith_by
 split_joined-returns-then-asked t c =
- record { copy_if = λ e. clash (sym e ∙ ap not c.split_apart.ensures.joined_value); said = c.split_apart.ensures.said }
+    record { copy_if = λ e. clash (sym e ∙ ap not c.split_apart.ensures.joined_value); said = c.split_apart.ensures.said }
 
 pub split_joined-split_turned-s-requires : goal.split_joined-split_turned-s-requires
 split_joined-split_turned-s-requires t c =

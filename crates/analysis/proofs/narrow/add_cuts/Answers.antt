@@ -39,9 +39,12 @@ returns-then-some c =
     let low = read_back {z = matched.in-Between.a} told.in-Between.known_told-1-own.given.0.1 in
     let high = read_back {z = matched.in-Between.b} told.in-Between.known_told-1-own.given.1.0.1 in
     let low₂ = read_back {z = matched₂.in-Between-last.c} told₂.in-Between-last.known_told-in-Between-last-1-own.given.0.1 in
-    let high₂ = read_back {z = matched₂.in-Between-last.d} told₂.in-Between-last.known_told-in-Between-last-1-own.given.1.0.1 in record { copy_if_2 = λ e. clash (sym e); row_after = join-cuts _ given.from.now given.v given.w given.u whole.more-1.given start.requires.v_bound matched.in-Between.is
+    let high₂ = read_back {z = matched₂.in-Between-last.d} told₂.in-Between-last.known_told-in-Between-last-1-own.given.1.0.1 in record {
+      copy_if_2 = λ e. clash (sym e);
+      row_after = join-cuts _ given.from.now given.v given.w given.u whole.more-1.given start.requires.v_bound matched.in-Between.is
           (sym met.met_if-last.ensures ∙ matched₂.in-Between-last.is)
-          (add-to _ _ test.if-some.true (rw (low, high, low₂, high₂) at c.widen_cut.ensures)) }
+          (add-to _ _ test.if-some.true (rw (low, high, low₂, high₂) at c.widen_cut.ensures));
+    }
 
 pub returns : goal.returns
 unfolding maybe_by
@@ -53,7 +56,10 @@ returns c =
     let met = matched in
     let whole = met in
     let start = whole in
-    let given = start.args in record { copy_if_2 = λ e. clash (sym e); row_after = join-cuts _ given.from.now given.v given.w given.u whole.more-1.given start.requires.v_bound matched.in-Between.is
+    let given = start.args in record {
+      copy_if_2 = λ e. clash (sym e);
+      row_after = join-cuts _ given.from.now given.v given.w given.u whole.more-1.given start.requires.v_bound matched.in-Between.is
           (sym met.met_if-last.ensures ∙ matched₂.in-Between-last.is)
           (add-alone (row_in given.row.now) _ test.if-some.false
-          (put_both _ _ _ given.v given.w _ _ _ _ first.put.result c.put-2.result (ap row_in (start.requires.copy_if (ap not test.if-some.false))) first.put.ensures c.put-2.ensures)) }
+          (put_both _ _ _ given.v given.w _ _ _ _ first.put.result c.put-2.result (ap row_in (start.requires.copy_if (ap not test.if-some.false))) first.put.ensures c.put-2.ensures));
+    }

@@ -1,6 +1,5 @@
 -- `analysis::rows::equal` meets its contract: the loop is left at the first word that differs, or past the last.
 -- Assumes nothing.
-use Prim.Native.Nat.{◌-◌}
 use mathlib.Core.Path.{◌≡◌, sym}
 use mathlib.Core.Bool.{Bool}
 use native.Mathlib.Omega.{arith}

@@ -34,12 +34,12 @@ put_ends-requires c =
 pub slice_bounds-put_ends-end-2 : goal.slice_bounds-put_ends-end-2
 slice_bounds-put_ends-end-2 c =
     let long : length c.put_ends.new.row ≡ 32 =
-        let lows = c in let args = lows.args in low-room args.lows.now args.highs.now (replicate 32 (pos 0)) _ [] (zeros 32) refl (rw lows.part.ensures at c.put_ends.ensures) in
+    let lows = c in let args = lows.args in low-room args.lows.now args.highs.now (replicate 32 (pos 0)) _ [] (zeros 32) refl (rw lows.part.ensures at c.put_ends.ensures) in
     sym long
 
 pub put_ends-requires-2 : goal.put_ends-requires-2
 put_ends-requires-2 c =
     let long : length c.put_ends.new.row ≡ 32 =
-        let lows = c in let args = lows.args in low-room args.lows.now args.highs.now (replicate 32 (pos 0)) _ [] (zeros 32) refl (rw lows.part.ensures at c.put_ends.ensures) in
+    let lows = c in let args = lows.args in low-room args.lows.now args.highs.now (replicate 32 (pos 0)) _ [] (zeros 32) refl (rw lows.part.ensures at c.put_ends.ensures) in
     let first = c in
     (long, omega arith, part-few first.args.highs.now c.part-2.ensures)

@@ -1,6 +1,5 @@
 -- `analysis::rows::put_ends` meets its contract: the loop copies one word a turn.
 -- Assumes nothing.
-use Prim.Native.Nat.{◌-◌}
 use native.Mathlib.Omega.{arith}
 use mir.Facts.{to_z-of_z}
 use Rattle.interval.proofs.MachineArithmetic.{ok32}

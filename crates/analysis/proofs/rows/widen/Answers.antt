@@ -1,6 +1,5 @@
 -- `analysis::rows::widen` meets its contract: the loop writes the word of both rows together over each word of the row, one a turn.
 -- Assumes nothing.
-use Prim.Native.Nat.{◌-◌}
 use mathlib.Core.Path.{ap, ◌∙◌}
 use native.Mathlib.Omega.{arith}
 use Rattle.interval.proofs.Machine.{through-bits}

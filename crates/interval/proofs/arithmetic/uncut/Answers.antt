@@ -12,7 +12,7 @@ pub returns-in-Sum : goal.returns-in-Sum
 unfolding uncut_of
 returns-in-Sum c =
     let ordered : (word c.args.a ≤ℤ word c.args.b) × (word c.args.c ≤ℤ word c.args.d) =
-        let f = c.ranges in simp (to_z-of_z, f.a, f.b, f.c, f.d) (c.requires.a_le_b, c.requires.c_le_d) in
+    let f = c.ranges in simp (to_z-of_z, f.a, f.b, f.c, f.d) (c.requires.a_le_b, c.requires.c_le_d) in
     let s = c in
     let f = s.ranges in
     arm uncut_of f.a f.b f.c f.d c.in-Sum.is
@@ -22,7 +22,7 @@ pub returns-in-Difference : goal.returns-in-Difference
 unfolding uncut_of
 returns-in-Difference c =
     let ordered : (word c.args.a ≤ℤ word c.args.b) × (word c.args.c ≤ℤ word c.args.d) =
-        let f = c.ranges in simp (to_z-of_z, f.a, f.b, f.c, f.d) (c.requires.a_le_b, c.requires.c_le_d) in
+    let f = c.ranges in simp (to_z-of_z, f.a, f.b, f.c, f.d) (c.requires.a_le_b, c.requires.c_le_d) in
     let s = c in
     let f = s.ranges in
     arm uncut_of f.a f.b f.c f.d c.in-Difference.is

@@ -15,21 +15,21 @@ pub returns : goal.returns
 unfolding cuts_at
 returns c =
     let left : let s = c.args in c.clamp-left.result ≡ from_to s.a (min_z s.b (s.d -ℤ pos 1)) =
-        let high = c.min64 in
-        let less = c.minus in
-        let b = c.widen-2 in
-        let a = c.widen in
-        let f = c.ranges in
-        rw c.clamp-left.ensures
-        (simp (handed64 a.ensures a.type_inv, handed64 high.ensures high.type_inv, handed64 b.ensures b.type_inv, handed64 less.ensures less.type_inv, to_z-of_z, f.a, f.b, f.d)
-        (clamp-is _ _ (word_low f.a) (≤_trans (min-left _ _) (word-high f.b)))) in
+    let high = c.min64 in
+    let less = c.minus in
+    let b = c.widen-2 in
+    let a = c.widen in
+    let f = c.ranges in
+    rw c.clamp-left.ensures
+    (simp (handed64 a.ensures a.type_inv, handed64 high.ensures high.type_inv, handed64 b.ensures b.type_inv, handed64 less.ensures less.type_inv, to_z-of_z, f.a, f.b, f.d)
+    (clamp-is _ _ (word_low f.a) (≤_trans (min-left _ _) (word-high f.b)))) in
     let right : let s = c.args in c.clamp-right.result ≡ from_to (max_z s.c (s.a +ℤ pos 1)) s.d =
-        let d = c.widen-4 in
-        let low = c.max64 in
-        let more = c.plus in
-        let old = c.widen-3 in
-        let f = c.ranges in
-        rw c.clamp-right.ensures
-        (simp (handed64 low.ensures low.type_inv, handed64 old.ensures old.type_inv, handed64 more.ensures more.type_inv, handed64 d.ensures d.type_inv, to_z-of_z, f.a, f.c, f.d)
-        (clamp-is _ _ (≤_trans (word_low f.c) (max-left _ _)) (word-high f.d))) in
+    let d = c.widen-4 in
+    let low = c.max64 in
+    let more = c.plus in
+    let old = c.widen-3 in
+    let f = c.ranges in
+    rw c.clamp-right.ensures
+    (simp (handed64 low.ensures low.type_inv, handed64 old.ensures old.type_inv, handed64 more.ensures more.type_inv, handed64 d.ensures d.type_inv, to_z-of_z, f.a, f.c, f.d)
+    (clamp-is _ _ (≤_trans (word_low f.c) (max-left _ _)) (word-high f.d))) in
     rw (c.kept.ensures, left, right)

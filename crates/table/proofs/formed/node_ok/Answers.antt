@@ -1,7 +1,6 @@
 -- `table::formed::node_ok` meets its contract: the arm of a kind tests the fields that the kind calls for, one after another. Assumes nothing.
 use Prim.Native.Nat.{ℕ, ◌≤◌}
 use mathlib.Core.Path.{◌≡◌, refl, sym, ap₂, ◌∙◌}
-use mathlib.Core.Logic.{⊎_elim}
 use native.Mathlib.Numerals.{lt_of_le_of_ne}
 use native.Mathlib.Omega.{arith}
 use lib.Dec.{ltb, lit<}
@@ -37,7 +36,7 @@ pub returns-in-0 : goal.returns-in-0
 unfolding node_fields_of number_of fits_of ref_of
 returns-in-0 c =
     let words : back c.four-x.result ≡ four_of c.args.nodes.now c.args.n =
-        let fits = c.struct_told-1.given in read-four fits.0.1 fits.1.0.1 fits.1.1.0.1 fits.1.1.1.0.1 ∙ c.four-x.ensures in
+    let fits = c.struct_told-1.given in read-four fits.0.1 fits.1.0.1 fits.1.1.0.1 fits.1.1.1.0.1 ∙ c.four-x.ensures in
     λ t e. let arm = c in
     node-counted t _ _ words (keyed _ arm.in-0.in-0-own.keys1) (in-turn (tested c.is_unused.ensures) (tested c.is_unused-in-0.ensures))
 
@@ -45,7 +44,7 @@ pub returns-in-1 : goal.returns-in-1
 unfolding node_fields_of number_of fits_of ref_of
 returns-in-1 c =
     let words : back c.four-x.result ≡ four_of c.args.nodes.now c.args.n =
-        let fits = c.struct_told-1.given in read-four fits.0.1 fits.1.0.1 fits.1.1.0.1 fits.1.1.1.0.1 ∙ c.four-x.ensures in
+    let fits = c.struct_told-1.given in read-four fits.0.1 fits.1.0.1 fits.1.1.0.1 fits.1.1.1.0.1 ∙ c.four-x.ensures in
     λ t e. let arm = c in
     let x = back arm.four-x.result in
     node-counted t _ _ words (keyed _ arm.in-1.in-1-own.keys2) (in-turn (tested {ok = le_z x.a x.b} refl) (tested c.is_unused-in-1.ensures))
@@ -54,7 +53,7 @@ pub returns-in-2 : goal.returns-in-2
 unfolding node_fields_of number_of fits_of ref_of
 returns-in-2 c =
     let words : back c.four-x.result ≡ four_of c.args.nodes.now c.args.n =
-        let fits = c.struct_told-1.given in read-four fits.0.1 fits.1.0.1 fits.1.1.0.1 fits.1.1.1.0.1 ∙ c.four-x.ensures in
+    let fits = c.struct_told-1.given in read-four fits.0.1 fits.1.0.1 fits.1.1.0.1 fits.1.1.1.0.1 ∙ c.four-x.ensures in
     λ t e. let second = c in
     let first = second in
     let arm = first in
@@ -65,7 +64,7 @@ pub returns-in-3 : goal.returns-in-3
 unfolding node_fields_of number_of fits_of ref_of
 returns-in-3 c =
     let words : back c.four-x.result ≡ four_of c.args.nodes.now c.args.n =
-        let fits = c.struct_told-1.given in read-four fits.0.1 fits.1.0.1 fits.1.1.0.1 fits.1.1.1.0.1 ∙ c.four-x.ensures in
+    let fits = c.struct_told-1.given in read-four fits.0.1 fits.1.0.1 fits.1.1.0.1 fits.1.1.1.0.1 ∙ c.four-x.ensures in
     λ t e. let second = c in
     let first = second in
     let arm = first in
@@ -76,7 +75,7 @@ pub returns-in-8 : goal.returns-in-8
 unfolding node_fields_of number_of fits_of ref_of
 returns-in-8 c =
     let words : back c.four-x.result ≡ four_of c.args.nodes.now c.args.n =
-        let fits = c.struct_told-1.given in read-four fits.0.1 fits.1.0.1 fits.1.1.0.1 fits.1.1.1.0.1 ∙ c.four-x.ensures in
+    let fits = c.struct_told-1.given in read-four fits.0.1 fits.1.0.1 fits.1.1.0.1 fits.1.1.1.0.1 ∙ c.four-x.ensures in
     λ t e. let second = c in
     let first = second in
     let arm = first in
@@ -87,7 +86,7 @@ pub returns-in-22 : goal.returns-in-22
 unfolding node_fields_of number_of fits_of ref_of
 returns-in-22 c =
     let words : back c.four-x.result ≡ four_of c.args.nodes.now c.args.n =
-        let fits = c.struct_told-1.given in read-four fits.0.1 fits.1.0.1 fits.1.1.0.1 fits.1.1.1.0.1 ∙ c.four-x.ensures in
+    let fits = c.struct_told-1.given in read-four fits.0.1 fits.1.0.1 fits.1.1.0.1 fits.1.1.1.0.1 ∙ c.four-x.ensures in
     λ t e. let second = c in
     let first = second in
     let arm = first in
@@ -98,7 +97,7 @@ pub returns-in-20-to-21 : goal.returns-in-20-to-21
 unfolding node_fields_of number_of fits_of ref_of
 returns-in-20-to-21 c =
     let words : back c.four-x.result ≡ four_of c.args.nodes.now c.args.n =
-        let fits = c.struct_told-1.given in read-four fits.0.1 fits.1.0.1 fits.1.1.0.1 fits.1.1.1.0.1 ∙ c.four-x.ensures in
+    let fits = c.struct_told-1.given in read-four fits.0.1 fits.1.0.1 fits.1.1.0.1 fits.1.1.1.0.1 ∙ c.four-x.ensures in
     λ t e. let second = c in
     let first = second in
     let arm = first in
@@ -113,14 +112,14 @@ pub returns-in_default : goal.returns-in_default
 unfolding fits_of
 returns-in_default c =
     let words : back c.four-x.result ≡ four_of c.args.nodes.now c.args.n =
-        let fits = c.struct_told-1.given in read-four fits.0.1 fits.1.0.1 fits.1.1.0.1 fits.1.1.1.0.1 ∙ c.four-x.ensures in
+    let fits = c.struct_told-1.given in read-four fits.0.1 fits.1.0.1 fits.1.1.0.1 fits.1.1.1.0.1 ∙ c.four-x.ensures in
     λ t e. node-counted t _ _ words (past-fields _ (number-negative _ c.in_default.if-kind-lt0-own.true (lit< tt))) failed
 
 pub returns-in_default-2 : goal.returns-in_default-2
 unfolding fits_of
 returns-in_default-2 c =
     let words : back c.four-x.result ≡ four_of c.args.nodes.now c.args.n =
-        let fits = c.struct_told-1.given in read-four fits.0.1 fits.1.0.1 fits.1.1.0.1 fits.1.1.1.0.1 ∙ c.four-x.ensures in
+    let fits = c.struct_told-1.given in read-four fits.0.1 fits.1.0.1 fits.1.1.0.1 fits.1.1.1.0.1 ∙ c.four-x.ensures in
     λ t e. let rest = c in
     let told = rest in
     let z = to_z w32 (of_z w32 told.four-x.result.kind) in
@@ -132,7 +131,7 @@ pub returns-in_default-3 : goal.returns-in_default-3
 unfolding fits_of
 returns-in_default-3 c =
     let words : back c.four-x.result ≡ four_of c.args.nodes.now c.args.n =
-        let fits = c.struct_told-1.given in read-four fits.0.1 fits.1.0.1 fits.1.1.0.1 fits.1.1.1.0.1 ∙ c.four-x.ensures in
+    let fits = c.struct_told-1.given in read-four fits.0.1 fits.1.0.1 fits.1.1.0.1 fits.1.1.1.0.1 ∙ c.four-x.ensures in
     λ t e. let rest = c in
     let told = rest in
     let z = to_z w32 (of_z w32 told.four-x.result.kind) in
@@ -143,7 +142,7 @@ pub returns-in-4-to-7 : goal.returns-in-4-to-7
 unfolding node_fields_of number_of fits_of ref_of
 returns-in-4-to-7 c =
     let words : back c.four-x.result ≡ four_of c.args.nodes.now c.args.n =
-        let fits = c.struct_told-1.given in read-four fits.0.1 fits.1.0.1 fits.1.1.0.1 fits.1.1.1.0.1 ∙ c.four-x.ensures in
+    let fits = c.struct_told-1.given in read-four fits.0.1 fits.1.0.1 fits.1.1.0.1 fits.1.1.1.0.1 ∙ c.four-x.ensures in
     λ t e. let second = c in
     let first = second in
     let arm = first in
@@ -151,7 +150,8 @@ returns-in-4-to-7 c =
     let z = to_z w32 (of_z w32 told.four-x.result.kind) in
     node-counted t _ _ words
     (elim c.in-4-to-7-1.branch [
-      in-9-1 w ↦ keyed _ w.in-9-1.keys5
+      | in-9-1 w ↦ keyed _ w.in-9-1.keys5
       | in_default+else-kind-lt0+then-kind-lt8 w ↦ binary-fields _ (from-four _ w.in_default-1.rest.0.0.0) (number-within z 0 8 w.if-kind-lt0-1.false w.if-kind-lt8-1.true)
-      | in_default+else-kind-lt0+else-kind-lt8+else-kind-lt16+then-kind-lt20 w ↦ compare-fields _ (number-from z 16 w.if-kind-lt16-1.false) (number-within z 16 20 w.if-kind-lt16-1.false w.if-kind-lt20-1.true) ])
+      | in_default+else-kind-lt0+else-kind-lt8+else-kind-lt16+then-kind-lt20 w ↦ compare-fields _ (number-from z 16 w.if-kind-lt16-1.false) (number-within z 16 20 w.if-kind-lt16-1.false w.if-kind-lt20-1.true)
+    ])
     (in-turn first.uses_arithmetic-in-4-to-7.ensures (in-turn second.uses_arithmetic-in-4-to-7-2.ensures (tested c.is_unused-in-4-to-7.ensures)))

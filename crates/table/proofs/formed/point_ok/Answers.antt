@@ -32,7 +32,7 @@ pub returns-in-0 : goal.returns-in-0
 unfolding point_fields_of number_of fits_of ref_of
 returns-in-0 c =
     let words : back c.four-x.result ≡ four_of c.args.points.now c.args.p =
-        let fits = c.struct_told-1.given in read-four fits.0.1 fits.1.0.1 fits.1.1.0.1 fits.1.1.1.0.1 ∙ c.four-x.ensures in
+    let fits = c.struct_told-1.given in read-four fits.0.1 fits.1.0.1 fits.1.1.0.1 fits.1.1.1.0.1 ∙ c.four-x.ensures in
     λ t h. let second = c in
     let first = second in
     let arm = first in
@@ -43,7 +43,7 @@ pub returns-in-1 : goal.returns-in-1
 unfolding point_fields_of number_of fits_of ref_of
 returns-in-1 c =
     let words : back c.four-x.result ≡ four_of c.args.points.now c.args.p =
-        let fits = c.struct_told-1.given in read-four fits.0.1 fits.1.0.1 fits.1.1.0.1 fits.1.1.1.0.1 ∙ c.four-x.ensures in
+    let fits = c.struct_told-1.given in read-four fits.0.1 fits.1.0.1 fits.1.1.0.1 fits.1.1.1.0.1 ∙ c.four-x.ensures in
     λ t h. let second = c in
     let first = second in
     let arm = first in
@@ -55,7 +55,7 @@ pub returns-in-2 : goal.returns-in-2
 unfolding point_fields_of number_of fits_of ref_of
 returns-in-2 c =
     let words : back c.four-x.result ≡ four_of c.args.points.now c.args.p =
-        let fits = c.struct_told-1.given in read-four fits.0.1 fits.1.0.1 fits.1.1.0.1 fits.1.1.1.0.1 ∙ c.four-x.ensures in
+    let fits = c.struct_told-1.given in read-four fits.0.1 fits.1.0.1 fits.1.1.0.1 fits.1.1.1.0.1 ∙ c.four-x.ensures in
     λ t h. let second = c in
     let first = second in
     let arm = first in
@@ -67,7 +67,7 @@ pub returns-in-3-to-4 : goal.returns-in-3-to-4
 unfolding fits_of ref_of
 returns-in-3-to-4 c =
     let words : back c.four-x.result ≡ four_of c.args.points.now c.args.p =
-        let fits = c.struct_told-1.given in read-four fits.0.1 fits.1.0.1 fits.1.1.0.1 fits.1.1.1.0.1 ∙ c.four-x.ensures in
+    let fits = c.struct_told-1.given in read-four fits.0.1 fits.1.0.1 fits.1.1.0.1 fits.1.1.1.0.1 ∙ c.four-x.ensures in
     λ t h. let second = c in
     let first = second in
     let arm = first in
@@ -83,12 +83,12 @@ pub returns-in_default : goal.returns-in_default
 unfolding fits_of
 returns-in_default c =
     let words : back c.four-x.result ≡ four_of c.args.points.now c.args.p =
-        let fits = c.struct_told-1.given in read-four fits.0.1 fits.1.0.1 fits.1.1.0.1 fits.1.1.1.0.1 ∙ c.four-x.ensures in
+    let fits = c.struct_told-1.given in read-four fits.0.1 fits.1.0.1 fits.1.1.0.1 fits.1.1.1.0.1 ∙ c.four-x.ensures in
     λ t h. point-counted t _ _ _ words (past-point (number-negative _ c.in_default.if-kind-lt0-own.true (lit< tt))) failed
 
 pub returns-in_default-2 : goal.returns-in_default-2
 unfolding fits_of
 returns-in_default-2 c =
     let words : back c.four-x.result ≡ four_of c.args.points.now c.args.p =
-        let fits = c.struct_told-1.given in read-four fits.0.1 fits.1.0.1 fits.1.1.0.1 fits.1.1.1.0.1 ∙ c.four-x.ensures in
+    let fits = c.struct_told-1.given in read-four fits.0.1 fits.1.0.1 fits.1.1.0.1 fits.1.1.1.0.1 ∙ c.four-x.ensures in
     λ t h. point-counted t _ _ _ words (past-point (number-from _ 5 c.in_default.if-kind-lt5-own.false)) failed

@@ -1,6 +1,5 @@
 -- `table::layout::first_in` meets its contract: the sum is the first point of task k, and at most 4294967295 for each share before k. The loop
 -- is left at task u, or at the last share, past which nothing is added. Assumes nothing.
-use Prim.Native.Nat.{◌-◌}
 use mathlib.Core.Path.{◌≡◌, sym, ap, ◌∙◌}
 use native.Mathlib.Omega.{arith}
 use lib.ListN.{length}

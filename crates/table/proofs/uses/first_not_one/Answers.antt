@@ -1,5 +1,4 @@
 -- `table::uses::first_not_one` meets its contract: each count below n is 1, and the loop is left at the first that is not, or past the last. Assumes nothing.
-use Prim.Native.Nat.{◌-◌}
 use Rattle.words.proofs.Bools.{fails, holds}
 use Rattle.words.proofs.FirstLaws.{start, next, stop, done}
 use Rattle.table.proofs.uses.first_not_one.Goals as goal

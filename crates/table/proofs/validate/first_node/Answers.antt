@@ -1,6 +1,6 @@
 -- `table::validate::first_node` meets its contract: each node below n passes refusal 4, and its uses are counted. The loop is left at the first that
 -- does not, or past the last. Assumes nothing.
-use Prim.Native.Nat.{◌-◌, zero-le}
+use Prim.Native.Nat.{zero-le}
 use mathlib.Core.Path.{◌≡◌, ap}
 use native.Mathlib.Nat.{le_antisymm}
 use native.Mathlib.Omega.{arith}
@@ -15,23 +15,23 @@ use Rattle.table.proofs.validate.first_node.Goals as goal
 pub returns-then-not-node_ok : goal.returns-then-not-node_ok
 returns-then-not-node_ok c =
     let many : c.sizes-s.result.nodes ≡ (sizes_of c.args.t.now).nodes =
-        ap (λ (s : Sizes). s.nodes) c.sizes-s.ensures.value in
+    ap (λ (s : Sizes). s.nodes) c.sizes-s.ensures.value in
     let counted : let turn = c in let t = turn.args.t.now in Counted (rule4 t turn.loop-n.n) (node_refs (nodes_of t) turn.loop-n.n) turn.loop-n.counts c.node_ok.new.counts c.node_ok.result =
-        let words = c in rw words.node_words-nodes.ensures at (c.node_ok.ensures words.args.t.now (ap (λ (s : Sizes). s.variables) words.sizes-s.ensures.value)) in
+    let words = c in rw words.node_words-nodes.ensures at (c.node_ok.ensures words.args.t.now (ap (λ (s : Sizes). s.variables) words.sizes-s.ensures.value)) in
     let turn = c in
     walk-stop turn.loop-n.invariant.1 counted c.if-not-node_ok.true (rw (← many) turn.loop-n-test.true)
 
 pub loop-n-preserved : goal.loop-n-preserved
 loop-n-preserved c =
     let counted : let turn = c in let t = turn.args.t.now in Counted (rule4 t turn.loop-n.n) (node_refs (nodes_of t) turn.loop-n.n) turn.loop-n.counts c.node_ok.new.counts c.node_ok.result =
-        let words = c in rw words.node_words-nodes.ensures at (c.node_ok.ensures words.args.t.now (ap (λ (s : Sizes). s.variables) words.sizes-s.ensures.value)) in
+    let words = c in rw words.node_words-nodes.ensures at (c.node_ok.ensures words.args.t.now (ap (λ (s : Sizes). s.variables) words.sizes-s.ensures.value)) in
     let turn = c in
     (omega arith, walk-next turn.loop-n.invariant.1 counted c.if-not-node_ok.false)
 
 pub returns : goal.returns
 returns c =
     let many : c.sizes-s.result.nodes ≡ (sizes_of c.args.t.now).nodes =
-        ap (λ (s : Sizes). s.nodes) c.sizes-s.ensures.value in
+    ap (λ (s : Sizes). s.nodes) c.sizes-s.ensures.value in
     let turn = c in
     rw (← many, le_antisymm c.loop-n-test.false turn.loop-n.invariant.0) turn.loop-n.invariant.1
 

@@ -1,6 +1,6 @@
 -- `table::validate::first_point` meets its contract: `first` is the first point of task u, and each point before it passes refusal 5, its uses counted.
 -- The loop is left where a task has a point that does not pass, or past the last task, whose points are the last ones. Assumes nothing.
-use Prim.Native.Nat.{suc, ◌+◌, ◌-◌, ◌≤◌, zero-le}
+use Prim.Native.Nat.{suc, ◌+◌, ◌≤◌, zero-le}
 use mathlib.Core.Path.{◌≡◌, refl, ap, ◌∙◌}
 use native.Mathlib.Nat.{le_antisymm}
 use native.Mathlib.Numerals.{add-one}
@@ -22,13 +22,13 @@ pub overflow_add-last : goal.overflow_add-last
 unfolding first_of first_in
 overflow_add-last c =
     let many : c.sizes-s.result.tasks ≡ (sizes_of c.args.t.now).tasks =
-        ap (λ (s : Sizes). s.tasks) c.sizes-s.ensures.value in
+    ap (λ (s : Sizes). s.tasks) c.sizes-s.ensures.value in
     let next-first : let turn = c in turn.loop-u.first + c.number_at.result ≡ first_of turn.args.t.now (suc turn.loop-u.u) =
-        let turn = c in rw (turn.loop-u.invariant.1, c.number_at.ensures.value, turn.shares-of.ensures) in
+    let turn = c in rw (turn.loop-u.invariant.1, c.number_at.ensures.value, turn.shares-of.ensures) in
     let one-task : let turn = c in OneTask turn.args.t.now turn.loop-u.first (turn.loop-u.first + c.number_at.result) =
-        let turn = c in record { task = turn.loop-u.u; there = rw (← many) c.loop-u-test.true; from = turn.loop-u.invariant.1; to = next-first } in
+    let turn = c in record { task = turn.loop-u.u; there = rw (← many) c.loop-u-test.true; from = turn.loop-u.invariant.1; to = next-first } in
     let within : let turn = c in turn.loop-u.first + c.number_at.result ≤ (sizes_of turn.args.t.now).points =
-        let start = c in last_within _ start.requires.whole start.requires.t_value one-task in
+    let start = c in last_within _ start.requires.whole start.requires.t_value one-task in
     let sizes = c in
     let few : (sizes_of sizes.args.t.now).points ≤ 4294967295 = rw sizes.sizes-s.ensures.value at sizes.sizes-s.ensures.sized.points in
     omega (arith, within)
@@ -37,9 +37,9 @@ pub loop-u-preserved : goal.loop-u-preserved
 unfolding first_of first_in
 loop-u-preserved c =
     let next-first : let turn = c in turn.loop-u.first + c.number_at.result ≡ first_of turn.args.t.now (suc turn.loop-u.u) =
-        let turn = c in rw (turn.loop-u.invariant.1, c.number_at.ensures.value, turn.shares-of.ensures) in
+    let turn = c in rw (turn.loop-u.invariant.1, c.number_at.ensures.value, turn.shares-of.ensures) in
     let walked : let sum = c in let start = sum in Walked (rule5 start.args.t.now) (point_refs (points_of start.args.t.now)) (sum.loop-u.first + sum.number_at.result) start.args.counts.now c.first_in_task.new.counts c.first_in_task.result =
-        c.first_in_task.ensures _ c.loop-u.invariant.2 in
+    c.first_in_task.ensures _ c.loop-u.invariant.2 in
     let call = c in
     let sum = call in
     (omega arith, rw add-one next-first, rw c.in_default.is at walked)
@@ -48,15 +48,15 @@ pub returns-in-At : goal.returns-in-At
 unfolding first_of first_in
 returns-in-At c =
     let many : c.sizes-s.result.tasks ≡ (sizes_of c.args.t.now).tasks =
-        ap (λ (s : Sizes). s.tasks) c.sizes-s.ensures.value in
+    ap (λ (s : Sizes). s.tasks) c.sizes-s.ensures.value in
     let next-first : let turn = c in turn.loop-u.first + c.number_at.result ≡ first_of turn.args.t.now (suc turn.loop-u.u) =
-        let turn = c in rw (turn.loop-u.invariant.1, c.number_at.ensures.value, turn.shares-of.ensures) in
+    let turn = c in rw (turn.loop-u.invariant.1, c.number_at.ensures.value, turn.shares-of.ensures) in
     let one-task : let turn = c in OneTask turn.args.t.now turn.loop-u.first (turn.loop-u.first + c.number_at.result) =
-        let turn = c in record { task = turn.loop-u.u; there = rw (← many) c.loop-u-test.true; from = turn.loop-u.invariant.1; to = next-first } in
+    let turn = c in record { task = turn.loop-u.u; there = rw (← many) c.loop-u-test.true; from = turn.loop-u.invariant.1; to = next-first } in
     let within : let turn = c in turn.loop-u.first + c.number_at.result ≤ (sizes_of turn.args.t.now).points =
-        let start = c in last_within _ start.requires.whole start.requires.t_value one-task in
+    let start = c in last_within _ start.requires.whole start.requires.t_value one-task in
     let walked : let sum = c in let start = sum in Walked (rule5 start.args.t.now) (point_refs (points_of start.args.t.now)) (sum.loop-u.first + sum.number_at.result) start.args.counts.now c.first_in_task.new.counts c.first_in_task.result =
-        c.first_in_task.ensures _ c.loop-u.invariant.2 in
+    c.first_in_task.ensures _ c.loop-u.invariant.2 in
     let call = c in
     walk-longer (rw c.in-At.is at walked) within
 
@@ -64,7 +64,7 @@ pub returns : goal.returns
 unfolding first_of
 returns c =
     let many : c.sizes-s.result.tasks ≡ (sizes_of c.args.t.now).tasks =
-        ap (λ (s : Sizes). s.tasks) c.sizes-s.ensures.value in
+    ap (λ (s : Sizes). s.tasks) c.sizes-s.ensures.value in
     let turn = c in
     let last = le_antisymm turn.loop-u.invariant.0 c.loop-u-test.false ∙ many in
     let all = turn.loop-u.invariant.1 ∙ ap (first_of turn.args.t.now) last ∙ turn.requires.t_value in
@@ -74,9 +74,9 @@ pub first_in_task-requires : goal.first_in_task-requires
 unfolding first_of first_in
 first_in_task-requires c =
     let many : c.sizes-s.result.tasks ≡ (sizes_of c.args.t.now).tasks =
-        ap (λ (s : Sizes). s.tasks) c.sizes-s.ensures.value in
+    ap (λ (s : Sizes). s.tasks) c.sizes-s.ensures.value in
     let next-first : let turn = c in turn.loop-u.first + c.number_at.result ≡ first_of turn.args.t.now (suc turn.loop-u.u) =
-        let turn = c in rw (turn.loop-u.invariant.1, c.number_at.ensures.value, turn.shares-of.ensures) in
+    let turn = c in rw (turn.loop-u.invariant.1, c.number_at.ensures.value, turn.shares-of.ensures) in
     let one-task : let turn = c in OneTask turn.args.t.now turn.loop-u.first (turn.loop-u.first + c.number_at.result) =
-        let turn = c in record { task = turn.loop-u.u; there = rw (← many) c.loop-u-test.true; from = turn.loop-u.invariant.1; to = next-first } in
+    let turn = c in record { task = turn.loop-u.u; there = rw (← many) c.loop-u-test.true; from = turn.loop-u.invariant.1; to = next-first } in
     record { whole = c.requires.whole; t_value = c.requires.t_value; one_task = one-task }

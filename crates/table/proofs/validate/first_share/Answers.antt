@@ -1,5 +1,4 @@
 -- `table::validate::first_share` meets its contract: each share below u is at least 1, and the loop is left at the first that is not, or past the last. Assumes nothing.
-use Prim.Native.Nat.{◌-◌}
 use Rattle.words.proofs.Bools.{fails, holds}
 use Rattle.words.proofs.FirstLaws.{start, next, stop, done}
 use Rattle.table.proofs.validate.first_share.Goals as goal

@@ -1,7 +1,6 @@
 -- `table::validate::parts` meets its contract: each `return` is the rules that passed, and the one that refused. Assumes nothing.
 use mathlib.Core.Path.{◌≡◌, refl, sym, ap, ◌∙◌}
 use mathlib.Core.List.{List}
-use borrow.Author.Rules.{rules}
 use borrow.Author.Tests.{eq-eqb, ne_eqb}
 use lib.IntN.{ℤ}
 use Rattle.words.specs.declared.Found.TheVariants.{Nothing}
@@ -37,7 +36,7 @@ unfolding parts_stage
 returns-in-At c =
     let t = c.args.t.now in
     let shares-searched : c.first_share.result ≡ first_bad (share_ok_of (shares_of t)) (sizes_of t).tasks =
-        rw (c.shares.ensures, c.sizes-s.ensures.value) at c.first_share.ensures in
+    rw (c.shares.ensures, c.sizes-s.ensures.value) at c.first_share.ensures in
     halt _ (sym shares-searched ∙ c.in-At.is)
 
 pub returns-then-first_of-s : goal.returns-then-first_of-s
@@ -45,9 +44,9 @@ unfolding parts_stage
 returns-then-first_of-s c =
     let t = c.args.t.now in
     let shares-searched : c.first_share.result ≡ first_bad (share_ok_of (shares_of t)) (sizes_of t).tasks =
-        rw (c.shares.ensures, c.sizes-s.ensures.value) at c.first_share.ensures in
+    rw (c.shares.ensures, c.sizes-s.ensures.value) at c.first_share.ensures in
     let shares-pass : first_bad (share_ok_of (shares_of t)) (sizes_of t).tasks ≡ Nothing =
-        sym shares-searched ∙ c.in_default.is in
+    sym shares-searched ∙ c.in_default.is in
     let first = c in
     let sizes = first.sizes-s.ensures.value in
     pass _ shares-pass
@@ -57,7 +56,7 @@ pub returns-in-At-first_node : goal.returns-in-At-first_node
 returns-in-At-first_node c =
     let t = c.args.t.now in
     let shares-searched : c.first_share.result ≡ first_bad (share_ok_of (shares_of t)) (sizes_of t).tasks =
-        rw (c.shares.ensures, c.sizes-s.ensures.value) at c.first_share.ensures in
+    rw (c.shares.ensures, c.sizes-s.ensures.value) at c.first_share.ensures in
     let shares-pass : first_bad (share_ok_of (shares_of t)) (sizes_of t).tasks ≡ Nothing = sym shares-searched ∙ c.in_default.is in
     let shares_sum : first_of t (sizes_of t).tasks ≡ (sizes_of t).points = rw c.sizes-s.ensures.value at (sym c.first_of.ensures ∙ c.if-first_of-s.false) in
     passed3 t shares-pass shares_sum (halt _ (sym c.first_node.ensures.is ∙ c.in-At-first_node.is))
@@ -66,7 +65,7 @@ pub returns-in-At-first_point : goal.returns-in-At-first_point
 returns-in-At-first_point c =
     let t = c.args.t.now in
     let shares-searched : c.first_share.result ≡ first_bad (share_ok_of (shares_of t)) (sizes_of t).tasks =
-        rw (c.shares.ensures, c.sizes-s.ensures.value) at c.first_share.ensures in
+    rw (c.shares.ensures, c.sizes-s.ensures.value) at c.first_share.ensures in
     let shares-pass : first_bad (share_ok_of (shares_of t)) (sizes_of t).tasks ≡ Nothing = sym shares-searched ∙ c.in_default.is in
     let shares_sum : first_of t (sizes_of t).tasks ≡ (sizes_of t).points = rw c.sizes-s.ensures.value at (sym c.first_of.ensures ∙ c.if-first_of-s.false) in
     let nodes-pass : first_bad (rule4 t) (sizes_of t).nodes ≡ Nothing = sym c.first_node.ensures.is ∙ c.in_default-first_node.is in
@@ -76,28 +75,28 @@ pub returns-in-At-first_not_one : goal.returns-in-At-first_not_one
 returns-in-At-first_not_one c =
     let t = c.args.t.now in
     let shares-searched : c.first_share.result ≡ first_bad (share_ok_of (shares_of t)) (sizes_of t).tasks =
-        rw (c.shares.ensures, c.sizes-s.ensures.value) at c.first_share.ensures in
+    rw (c.shares.ensures, c.sizes-s.ensures.value) at c.first_share.ensures in
     let shares-pass : first_bad (share_ok_of (shares_of t)) (sizes_of t).tasks ≡ Nothing = sym shares-searched ∙ c.in_default.is in
     let shares_sum : first_of t (sizes_of t).tasks ≡ (sizes_of t).points = rw c.sizes-s.ensures.value at (sym c.first_of.ensures ∙ c.if-first_of-s.false) in
     let nodes-pass : first_bad (rule4 t) (sizes_of t).nodes ≡ Nothing = sym c.first_node.ensures.is ∙ c.in_default-first_node.is in
     let points-pass : first_bad (rule5 t) (sizes_of t).points ≡ Nothing = sym c.first_point.ensures.is ∙ c.in_default-first_point.is in
     let uses-searched : c.first_not_one.result ≡ first_bad (rule6 t) (sizes_of t).nodes =
-        uses-first 1024 _ _ _ c.requires.few (ap (λ (s : Sizes). s.nodes) c.sizes-s.ensures.value)
-        (c.first_node.ensures.uses c.in_default-first_node.is) (c.first_point.ensures.uses c.in_default-first_point.is) c.first_not_one.ensures in
+    uses-first 1024 _ _ _ c.requires.few (ap (λ (s : Sizes). s.nodes) c.sizes-s.ensures.value)
+    (c.first_node.ensures.uses c.in_default-first_node.is) (c.first_point.ensures.uses c.in_default-first_point.is) c.first_not_one.ensures in
     passed3 t shares-pass shares_sum (pass _ nodes-pass (pass _ points-pass (halt _ (sym uses-searched ∙ c.in-At-first_not_one.is))))
 
 pub returns : goal.returns
 returns c =
     let t = c.args.t.now in
     let shares-searched : c.first_share.result ≡ first_bad (share_ok_of (shares_of t)) (sizes_of t).tasks =
-        rw (c.shares.ensures, c.sizes-s.ensures.value) at c.first_share.ensures in
+    rw (c.shares.ensures, c.sizes-s.ensures.value) at c.first_share.ensures in
     let shares-pass : first_bad (share_ok_of (shares_of t)) (sizes_of t).tasks ≡ Nothing = sym shares-searched ∙ c.in_default.is in
     let shares_sum : first_of t (sizes_of t).tasks ≡ (sizes_of t).points = rw c.sizes-s.ensures.value at (sym c.first_of.ensures ∙ c.if-first_of-s.false) in
     let nodes-pass : first_bad (rule4 t) (sizes_of t).nodes ≡ Nothing = sym c.first_node.ensures.is ∙ c.in_default-first_node.is in
     let points-pass : first_bad (rule5 t) (sizes_of t).points ≡ Nothing = sym c.first_point.ensures.is ∙ c.in_default-first_point.is in
     let uses-searched : c.first_not_one.result ≡ first_bad (rule6 t) (sizes_of t).nodes =
-        uses-first 1024 _ _ _ c.requires.few (ap (λ (s : Sizes). s.nodes) c.sizes-s.ensures.value)
-        (c.first_node.ensures.uses c.in_default-first_node.is) (c.first_point.ensures.uses c.in_default-first_point.is) c.first_not_one.ensures in
+    uses-first 1024 _ _ _ c.requires.few (ap (λ (s : Sizes). s.nodes) c.sizes-s.ensures.value)
+    (c.first_node.ensures.uses c.in_default-first_node.is) (c.first_point.ensures.uses c.in_default-first_point.is) c.first_not_one.ensures in
     passed3 t shares-pass shares_sum (pass _ nodes-pass (pass _ points-pass (pass _ (sym uses-searched ∙ c.in_default-first_not_one.is) refl)))
 
 pub first_point-requires : goal.first_point-requires

@@ -30,54 +30,54 @@ pub returns-in-At : goal.returns-in-At
 unfolding sizes_stage
 returns-in-At c =
     let table : List ℤ =
-        c.args.t.now in
+    c.args.t.now in
     let long : leb 5 (length table) ≡ true =
-        le-leb _ _ c.if-n-lt5.false in
+    le-leb _ _ c.if-n-lt5.false in
     let is : Broken 2 c.in-At.k ≡ validate_of table =
-        pass-if _ _ long (halt _ (sym c.first_size.ensures ∙ c.in-At.is)) in
+    pass-if _ _ long (halt _ (sym c.first_size.ensures ∙ c.in-At.is)) in
     record { value = is; result_value = ap stage_numbers is }
 
 pub returns-then-n-length_for : goal.returns-then-n-length_for
 unfolding sizes_stage
 returns-then-n-length_for c =
     let table : List ℤ =
-        c.args.t.now in
+    c.args.t.now in
     let long : leb 5 (length table) ≡ true =
-        le-leb _ _ c.if-n-lt5.false in
+    le-leb _ _ c.if-n-lt5.false in
     let sized : first_bad (size_ok_of table) 5 ≡ Nothing =
-        sym c.first_size.ensures ∙ c.in_default.is in
+    sym c.first_size.ensures ∙ c.in_default.is in
     let is : Broken 1 (length table) ≡ validate_of table =
-        pass-if _ _ long (pass _ sized
-        (halt-if _ (ne_eqb _ _ (λ e. c.if-n-length_for.true (e ∙ sym c.length_for.ensures))) refl)) in
+    pass-if _ _ long (pass _ sized
+    (halt-if _ (ne_eqb _ _ (λ e. c.if-n-length_for.true (e ∙ sym c.length_for.ensures))) refl)) in
     record { value = is; result_value = ap stage_numbers is }
 
 pub returns : goal.returns
 unfolding sizes_stage
 returns c =
     let table : List ℤ =
-        c.args.t.now in
+    c.args.t.now in
     let long : leb 5 (length table) ≡ true =
-        le-leb _ _ c.if-n-lt5.false in
+    le-leb _ _ c.if-n-lt5.false in
     let sized : first_bad (size_ok_of table) 5 ≡ Nothing =
-        sym c.first_size.ensures ∙ c.in_default.is in
+    sym c.first_size.ensures ∙ c.in_default.is in
     let is : c.parts.result ≡ validate_of table =
-        pass-if _ _ long (pass _ sized
-        (pass-if _ _ (eq-eqb _ _ (c.if-n-length_for.false ∙ c.length_for.ensures)) c.parts.ensures)) in
+    pass-if _ _ long (pass _ sized
+    (pass-if _ _ (eq-eqb _ _ (c.if-n-length_for.false ∙ c.length_for.ensures)) c.parts.ensures)) in
     record { value = is; result_value = ap stage_numbers is }
 
 pub parts-requires : goal.parts-requires
 parts-requires c =
     let table : List ℤ =
-        c.args.t.now in
+    c.args.t.now in
     let sized : first_bad (size_ok_of table) 5 ≡ Nothing =
-        sym c.first_size.ensures ∙ c.in_default.is in
+    sym c.first_size.ensures ∙ c.in_default.is in
     let within : (k : ℕ) → k < 5 → inside (get_or lowest k 0) (get_or highest k 0) (number_at table k) ≡ true =
-        first_bad-none (size_ok_of table) 5 sized in
+    first_bad-none (size_ok_of table) 5 sized in
     let whole : Whole table =
-        let t = table in
-        record {
-          some = leb-true 1 (sizes_of t).tasks (and_left _ _ (within 0 (lit< tt)));
-          few = leb-true (sizes_of t).nodes 1024 (and_right (leb 0 (sizes_of t).nodes) _ (within 4 (lit< tt)));
-          whole = c.if-n-length_for.false ∙ c.length_for.ensures;
-        } in
+    let t = table in
+    record {
+      some = leb-true 1 (sizes_of t).tasks (and_left _ _ (within 0 (lit< tt)));
+      few = leb-true (sizes_of t).nodes 1024 (and_right (leb 0 (sizes_of t).nodes) _ (within 4 (lit< tt)));
+      whole = c.if-n-length_for.false ∙ c.length_for.ensures;
+    } in
     whole

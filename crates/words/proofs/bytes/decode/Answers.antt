@@ -1,5 +1,4 @@
 -- `words::bytes::decode` meets its contract: the loop fills the room from its front. Assumes nothing.
-use Prim.Native.Nat.{◌-◌}
 use mathlib.Core.Path.{ap, ◌∙◌}
 use native.Mathlib.Omega.{arith}
 use mir.Syntax.{w32}

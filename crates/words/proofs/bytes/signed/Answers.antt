@@ -13,17 +13,17 @@ returns-then-n-lt2147483648 c = to_z_pos w32 _ c.if-n-lt2147483648.true ∙ sign
 pub overflow_sub-result : goal.overflow_sub-result
 overflow_sub-result c =
     let few : 4294967295 - c.args.n < 2147483648 =
-        omega (arith, c.if-n-lt2147483648.false) in
+    omega (arith, c.if-n-lt2147483648.false) in
     minus-fits _ few
 
 pub overflow_sub-result-2 : goal.overflow_sub-result-2
 overflow_sub-result-2 c =
     let few : 4294967295 - c.args.n < 2147483648 =
-        omega (arith, c.if-n-lt2147483648.false) in
+    omega (arith, c.if-n-lt2147483648.false) in
     less-one-fits _ few
 
 pub returns : goal.returns
 returns c =
     let few : 4294967295 - c.args.n < 2147483648 =
-        omega (arith, c.if-n-lt2147483648.false) in
+    omega (arith, c.if-n-lt2147483648.false) in
     less-one-is _ few ∙ signed_high _ c.if-n-lt2147483648.false
