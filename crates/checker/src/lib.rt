@@ -1,5 +1,6 @@
 // The check of a proposal against a table: refusals 1 to 17 in order, and the alarm list.
 #![tactic(auto)]
+
 pub mod check;
 mod list;
 

@@ -6,12 +6,11 @@ use mathlib.Core.Path.{◌≡◌, refl, sym, ap, ◌∙◌}
 use mathlib.Core.Bool.{Bool, true, false, not, cond, ◌&&◌, and-true, and_assoc}
 use mathlib.Core.List.{List, [], ◌∷◌, ◌++◌}
 use native.Mathlib.Omega.{arith}
-use borrow.Author.Tests.{not-true, not-false}
 use lib.Dec.{eqb}
 use lib.IntN.{ℤ, pos}
 use lib.ListN.{set}
 use Rattle.words.specs.First.{all_below}
-use Rattle.words.proofs.Bools.{fails-not, holds_not}
+use Rattle.words.proofs.Bools.{fails, holds}
 use Rattle.interval.specs.Integer.{min_z, max_z}
 use Rattle.interval.specs.Lattice.{is_none_of, meet_of}
 use Rattle.interval.specs.declared.Interval.{Interval}
@@ -82,14 +81,14 @@ module _ (t w : List ℤ) where
       rw (f, x.variables, x.low, x.high, e, and-true (eqb (held_of w q) s), and-true (row_within_of (sizes_of t).variables r (row_at t w q)))
 
   -- ---- a side of a test, by what narrowing left
-  pub side-none : (s q : ℕ) (n : Bool) (r : Row) {y : Fits} → not n ≡ true → y ≡ all_fit → y ≡ side_of t w (outcome_if (maybe_by n r) s q)
+  pub side-none : (s q : ℕ) (n : Bool) (r : Row) {y : Fits} → n ≡ false → y ≡ all_fit → y ≡ side_of t w (outcome_if (maybe_by n r) s q)
   unfolding maybe_by outcome_if locks_fit rows_fit all_outcomes
-  side-none s q n r e f = rw (not-true n e) f
+  side-none s q n r e f = rw e f
 
-  pub side-some : (s q : ℕ) (n : Bool) (r : Row) {h v : ℕ} {lows highs : List ℤ} {flow : Bool} → not n ≡ false → h ≡ held_of w q
+  pub side-some : (s q : ℕ) (n : Bool) (r : Row) {h v : ℕ} {lows highs : List ℤ} {flow : Bool} → n ≡ true → h ≡ held_of w q
       → RowRead q v lows highs → flow ≡ row_within_of v r (row_of lows highs) → fits (eqb h s) flow true ≡ side_of t w (outcome_if (maybe_by n r) s q)
   unfolding maybe_by
-  side-some s q n r e g x f = rw (not-false n e) (one_side s q r g x f)
+  side-some s q n r e g x f = rw e (one_side s q r g x f)
 
   -- ---- a side of a test by a comparison: the row lows..highs, whose ends are all there, with the cuts u of v and x
   module _ (s q v x : ℕ) (lows highs : List ℤ) (u : Cuts) where
@@ -214,8 +213,8 @@ module _ (t w : List ℤ) where
         → (o ≡ fits_by t w (Test c y n) p s r) × (m' ≡ marked_of m (alarms_by t (Test c y n) r))
     unfolding alarms_by
     test-bare c y n m b {nodes} e h first second f = (
-      test_fits c y n e (rw (h.0, first, second, h.1.0) at f.0 ∙ bare-tested (cond_at nodes c) y n s r),
-      rw (← e, alarms-bare (cond_at nodes c) (own_of r), ← h.0) f.1,
+      test_fits c y n e (rw (h.node_value, first, second, h.turned_value) at f.0 ∙ bare-tested (cond_at nodes c) y n s r),
+      rw (← e, alarms-bare (cond_at nodes c) (own_of r), ← h.node_value) f.1,
     )
 
     -- ---- a lock
@@ -232,19 +231,19 @@ module _ (t w : List ℤ) where
     rest_meets m x f = rw (x.variables, x.low, x.high) at f
 
     pub lock-apart : (m q : ℕ) {n : ℕ} {lows highs : List ℤ} {b : Bool} {y : Fits} → has_of s m ≡ false
-        → RowRead ((sizes_of t).points + m) n lows highs → b ≡ all_below (meets_at (row_of lows highs)) n → not b ≡ true → y ≡ all_fit
+        → RowRead ((sizes_of t).points + m) n lows highs → b ≡ all_below (meets_at (row_of lows highs)) n → b ≡ false → y ≡ all_fit
         → y ≡ fits_by t w (Lock m q) p s r
     unfolding outcomes_with outcomes_by only_if meet_rows_of row_if outcome_if writes
-    lock-apart m q e x f g h = no-outcome (Lock m q) (rw (e, fails-not (rest_meets m x f) g)) refl h
+    lock-apart m q e x f g h = no-outcome (Lock m q) (rw (e, fails (rest_meets m x f) g)) refl h
 
     pub lock-met : (m q : ℕ) {n h v : ℕ} {a b lows highs : List ℤ} {z flow : Bool} → has_of s m ≡ false → RowRead ((sizes_of t).points + m) n a b
-        → z ≡ all_below (meets_at (row_of a b)) n → not z ≡ false → v ≡ with_of s m → h ≡ held_of w q → RowRead q n lows highs
+        → z ≡ all_below (meets_at (row_of a b)) n → z ≡ true → v ≡ with_of s m → h ≡ held_of w q → RowRead q n lows highs
         → flow ≡ row_within_of n (row_of (each max_z r.lows a) (each min_z r.highs b)) (row_of lows highs)
         → fits (eqb h v) flow true ≡ fits_by t w (Lock m q) p s r
     unfolding outcomes_with outcomes_by only_if meet_rows_of row_if writes
     lock-met m q e x f g i d y j =
         rw i
-        (by-outcomes (Lock m q) _ (rw (e, holds_not (rest_meets m x f) g)) refl (one_side (with_of s m) q _ d y (rw (x.low, x.high) at j)))
+        (by-outcomes (Lock m q) _ (rw (e, holds (rest_meets m x f) g)) refl (one_side (with_of s m) q _ d y (rw (x.low, x.high) at j)))
 
     -- ---- an unlock
     pub unlock-free : (m q : ℕ) {y : Fits} → has_of s m ≡ false → y ≡ all_fit → y ≡ fits_by t w (Unlock m q) p s r
@@ -260,10 +259,10 @@ module _ (t w : List ℤ) where
   abbrev pub Pointed : ℕ → List ℕ → Fits → List ℕ → Type 0
   Pointed p m y m' = (y ≡ fits_at t w p) × (m' ≡ marked_of m (alarms_at t w p))
 
-  pub unreached : (p : ℕ) (m : List ℕ) {s : ℕ} {b : Bool} {y : Fits} → s ≡ held_of w p → b ≡ not (eqb s 4294967295) → not b ≡ true → y ≡ all_fit
+  pub unreached : (p : ℕ) (m : List ℕ) {s : ℕ} {b : Bool} {y : Fits} → s ≡ held_of w p → b ≡ not (eqb s 4294967295) → b ≡ false → y ≡ all_fit
       → Pointed p m y m
   unfolding fits_at rule12 rule13 rule14 alarms_at alarms_if marked_of
-  unreached p m {b = b} e f g h = rw (← e, ← f, not-true b g) (h, refl)
+  unreached p m {b = b} e f g h = rw (← e, ← f, g) (h, refl)
 
   -- the same of what stands at the point, where it is reached with the held set s
   abbrev pub Reached : ℕ → ℕ → List ℕ → Fits → List ℕ → Type 0
@@ -275,7 +274,7 @@ module _ (t w : List ℤ) where
       → m' ≡ marked_of m (alarms_by t x (row_of lows highs)) → Reached p s m y m'
   stands p s m l h i j k u v = rw (← i, ← j, k) (rw (l, h) at u, rw (l, h) at v)
 
-  pub reached : (p : ℕ) (m : List ℕ) {s : ℕ} {b : Bool} {y : Fits} {m' : List ℕ} → s ≡ held_of w p → b ≡ not (eqb s 4294967295) → not b ≡ false
+  pub reached : (p : ℕ) (m : List ℕ) {s : ℕ} {b : Bool} {y : Fits} {m' : List ℕ} → s ≡ held_of w p → b ≡ not (eqb s 4294967295) → b ≡ true
       → Reached p s m y m' → Pointed p m y m'
   unfolding fits_by fits_at rule12 rule13 rule14 outcomes_of alarms_at alarms_if
-  reached p m {b = b} e f g u = rw (← e, ← f, not-false b g) u
+  reached p m {b = b} e f g u = rw (← e, ← f, g) u

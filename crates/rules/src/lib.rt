@@ -1,5 +1,6 @@
 // Refusals 7 to 16: a proposal's layout, held sets, the outcomes of points, and each rule with its smallest place.
 #![tactic(auto)]
+
 use words::Found;
 
 mod disturb;

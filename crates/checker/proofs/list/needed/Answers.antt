@@ -1,5 +1,5 @@
 -- `checker::list::needed` meets its contract: the loop's count is the words of the nodes passed. Assumes nothing.
-use Prim.Native.Nat.{ℕ, ◌-◌}
+use Prim.Native.Nat.{ℕ}
 use mathlib.Core.Path.{◌≡◌, refl, ap, ◌∙◌}
 use native.Mathlib.Omega.{arith}
 use borrow.Author.Rules.{rules}
@@ -14,10 +14,8 @@ loop-n-init c = (search rules, refl, search rules)
 
 pub loop-n-preserved : goal.loop-n-preserved
 loop-n-preserved c =
-    let first = c in
-    let loop = first in
-    let two = pairs_at-length (marked_at loop.args.marks.now) loop.loop-n.n in
-    let overflow = rw first.is_marked.ensures at first.words_if.ensures.value in
+    let two = pairs_at-length (marked_at c.args.marks.now) c.loop-n.n in
+    let overflow = rw c.is_marked.ensures at c.words_if.ensures.value in
     let zero = rw c.is_marked-in-loop-n.ensures at c.words_if-in-loop-n.ensures.value in
     (omega arith, rw (pairs-more, length-append) (omega (arith, two, overflow, zero)), omega arith)
 

@@ -7,25 +7,27 @@ use Rattle.checker.proofs.list.put_node.Goals as goal
 
 pub put_if-next-requires : goal.put_if-next-requires
 put_if-next-requires c =
-    let start = c in
-    let two = pairs_at-length (marked_at start.args.marks.now) start.args.n in
-    record { n_bound = (start.requires.n_bound, lit< tt); kind_in_bounds = rw c.is_marked.ensures (omega (arith, two, start.requires.n_in_bounds)) }
+    let two = pairs_at-length (marked_at c.args.marks.now) c.args.n in
+    record { n_bound = (c.requires.n_bound, lit< tt); kind_in_bounds = rw c.is_marked.ensures (omega (arith, two, c.requires.n_in_bounds)) }
 
 pub put_if-requires : goal.put_if-requires
 put_if-requires c =
-    let put = c in
-    let start = put in
-    let two = pairs_at-length (marked_at start.args.marks.now) start.args.n in
-    let overflow = rw put.is_marked.ensures at put.put_if-next.ensures.value in
-    record { n_bound = (start.requires.n_bound, lit< tt); kind_in_bounds = rw c.is_marked-2.ensures (omega (arith, two, overflow, start.requires.n_in_bounds, put.put_if-next.auto.1.1.1.0)) }
+    let two = pairs_at-length (marked_at c.args.marks.now) c.args.n in
+    let overflow = rw c.is_marked.ensures at c.put_if-next.ensures.value in
+    record {
+      n_bound = (c.requires.n_bound, lit< tt);
+      kind_in_bounds = rw c.is_marked-2.ensures (omega (arith, two, overflow, c.requires.n_in_bounds, c.put_if-next.auto.out));
+    }
 
 pub returns : goal.returns
 unfolding pairs_at
 returns c =
-    let second = c in
-    let first = second in
-    let start = first in
-    let f = marked_at start.args.marks.now in
-    let n = start.args.n in
-    let overflow = rw first.is_marked.ensures at first.put_if-next.ensures in
-    let zero = rw second.is_marked-2.ensures at second.put_if.ensures in record { value = omega (arith, pairs_at-length f n, overflow.0, zero.0); out_after = rw (sets-append start.args.out.now start.args.at (pair_if (f n 1) n 1) (pair_if (f n 2) n 2), ← overflow.0, ← overflow.1) zero.1 }
+    let f = marked_at c.args.marks.now in
+    let n = c.args.n in
+    let overflow = rw c.is_marked.ensures at c.put_if-next.ensures in
+    let zero = rw c.is_marked-2.ensures at c.put_if.ensures in
+    record {
+      value = omega (arith, pairs_at-length f n, overflow.value, zero.value);
+      out_after = rw (sets-append c.args.out.now c.args.at (pair_if (f n 1) n 1) (pair_if (f n 2) n 2), ← overflow.value, ← overflow.out_after)
+          zero.out_after;
+    }

@@ -19,37 +19,37 @@ loop-v-init c =
 pub offset_bounds-hull-v : goal.offset_bounds-hull-v
 offset_bounds-hull-v c =
     let slot : c.loop-v.v < 16 =
-        omega (arith, c.loop-v-test.true, c.requires.0) in
+    omega (arith, c.loop-v-test.true, c.requires.0) in
     omega (arith, slot)
 
 pub bounds-hull-v : goal.bounds-hull-v
 bounds-hull-v c =
     let slot : c.loop-v.v < 16 =
-        omega (arith, c.loop-v-test.true, c.requires.0) in
+    omega (arith, c.loop-v-test.true, c.requires.0) in
     omega (arith, slot)
 
 pub overflow_add-v : goal.overflow_add-v
 overflow_add-v c =
     let slot : c.loop-v.v < 16 =
-        omega (arith, c.loop-v-test.true, c.requires.0) in
+    omega (arith, c.loop-v-test.true, c.requires.0) in
     omega (arith, slot)
 
 pub offset_bounds-hull-v-in-loop-v : goal.offset_bounds-hull-v-in-loop-v
 offset_bounds-hull-v-in-loop-v c =
     let slot : c.loop-v.v < 16 =
-        omega (arith, c.loop-v-test.true, c.requires.0) in
+    omega (arith, c.loop-v-test.true, c.requires.0) in
     omega (arith, slot)
 
 pub bounds-hull-v-in-loop-v : goal.bounds-hull-v-in-loop-v
 bounds-hull-v-in-loop-v c =
     let slot : c.loop-v.v < 16 =
-        omega (arith, c.loop-v-test.true, c.requires.0) in
+    omega (arith, c.loop-v-test.true, c.requires.0) in
     omega (arith, slot)
 
 pub offset_bounds-lows-v : goal.offset_bounds-lows-v
 offset_bounds-lows-v c =
     let slot : c.loop-v.v < 16 =
-        omega (arith, c.loop-v-test.true, c.requires.0) in
+    omega (arith, c.loop-v-test.true, c.requires.0) in
     omega (arith, slot)
 
 pub bounds-lows-v : goal.bounds-lows-v
@@ -59,7 +59,7 @@ bounds-lows-v c =
 pub offset_bounds-highs-v : goal.offset_bounds-highs-v
 offset_bounds-highs-v c =
     let slot : c.loop-v.v < 16 =
-        omega (arith, c.loop-v-test.true, c.requires.0) in
+    omega (arith, c.loop-v-test.true, c.requires.0) in
     omega (arith, slot)
 
 pub bounds-highs-v : goal.bounds-highs-v
@@ -69,40 +69,28 @@ bounds-highs-v c =
 pub returns-then-not-is_inside : goal.returns-then-not-is_inside
 returns-then-not-is_inside c =
     let slot : c.loop-v.v < 16 =
-        omega (arith, c.loop-v-test.true, c.requires.0) in
-    let tested : let turn = c in let a = turn.args in c.is_inside.result ≡ holds_hull (row_in a.hull.now) (row_of a.lows.now a.highs.now) turn.loop-v.v =
-        let high = c in
-        let low = high in
-        let hull-high = low in
-        let hull-low = hull-high in
-        let turn = hull-low in
-        let a = turn.args in
-        ends-tested a.hull.now _ slot a.lows.now a.highs.now c.is_inside.ensures
-        low.is_inside-arg-in-loop-v-2-1.given hull-low.is_inside-arg-1.given hull-high.is_inside-arg-in-loop-v-1.given high.is_inside-arg-in-loop-v-3-1.given in
-    let turn = c in
-    fails-in turn.loop-v.invariant turn.loop-v-test.true (fails tested c.if-not-is_inside.true)
+    omega (arith, c.loop-v-test.true, c.requires.0) in
+    let tested : let a = c.args in c.is_inside.result ≡ holds_hull (row_in a.hull.now) (row_of a.lows.now a.highs.now) c.loop-v.v =
+    let a = c.args in
+    ends-tested a.hull.now _ slot a.lows.now a.highs.now c.is_inside.ensures
+    c.is_inside-arg-in-loop-v-2-1.given c.is_inside-arg-1.given c.is_inside-arg-in-loop-v-1.given c.is_inside-arg-in-loop-v-3-1.given in
+    fails-in c.loop-v.invariant c.loop-v-test.true (fails tested c.if-not-is_inside.true)
 
 pub overflow_add-v-in-loop-v : goal.overflow_add-v-in-loop-v
 overflow_add-v-in-loop-v c =
     let slot : c.loop-v.v < 16 =
-        omega (arith, c.loop-v-test.true, c.requires.0) in
+    omega (arith, c.loop-v-test.true, c.requires.0) in
     omega (arith, slot)
 
 pub loop-v-preserved : goal.loop-v-preserved
 loop-v-preserved c =
     let slot : c.loop-v.v < 16 =
-        omega (arith, c.loop-v-test.true, c.requires.0) in
-    let tested : let turn = c in let a = turn.args in c.is_inside.result ≡ holds_hull (row_in a.hull.now) (row_of a.lows.now a.highs.now) turn.loop-v.v =
-        let high = c in
-        let low = high in
-        let hull-high = low in
-        let hull-low = hull-high in
-        let turn = hull-low in
-        let a = turn.args in
-        ends-tested a.hull.now _ slot a.lows.now a.highs.now c.is_inside.ensures
-        low.is_inside-arg-in-loop-v-2-1.given hull-low.is_inside-arg-1.given hull-high.is_inside-arg-in-loop-v-1.given high.is_inside-arg-in-loop-v-3-1.given in
-    let turn = c in
-    checks turn.loop-v.invariant turn.loop-v-test.true (holds tested c.if-not-is_inside.false)
+    omega (arith, c.loop-v-test.true, c.requires.0) in
+    let tested : let a = c.args in c.is_inside.result ≡ holds_hull (row_in a.hull.now) (row_of a.lows.now a.highs.now) c.loop-v.v =
+    let a = c.args in
+    ends-tested a.hull.now _ slot a.lows.now a.highs.now c.is_inside.ensures
+    c.is_inside-arg-in-loop-v-2-1.given c.is_inside-arg-1.given c.is_inside-arg-in-loop-v-1.given c.is_inside-arg-in-loop-v-3-1.given in
+    checks c.loop-v.invariant c.loop-v-test.true (holds tested c.if-not-is_inside.false)
 
 pub returns : goal.returns
 returns c =

@@ -11,17 +11,14 @@ returns-then-is_taken c = inside _ _ _ _ _ _ (holds c.is_taken.ensures c.if-is_t
 pub returns-then-head_in-u : goal.returns-then-head_in-u
 returns-then-head_in-u c =
     let task-is : let a = c.args in c.head_in.result ≡ head_of a.t.now a.w.now a.i 0 =
-        let start = c in c.head_in.ensures.value ∙ head_at start.requires.apart start.args.i 0 in
-    let task = c in same-task _ _ _ _ _ _ (sym task-is ∙ c.if-head_in-u.true)
+    c.head_in.ensures.value ∙ head_at c.requires.apart c.args.i 0 in
+    same-task _ _ _ _ _ _ (sym task-is ∙ c.if-head_in-u.true)
 
 pub returns : goal.returns
 returns c =
     let task-is : let a = c.args in c.head_in.result ≡ head_of a.t.now a.w.now a.i 0 =
-        let start = c in c.head_in.ensures.value ∙ head_at start.requires.apart start.args.i 0 in
+    c.head_in.ensures.value ∙ head_at c.requires.apart c.args.i 0 in
     let set_is : let a = c.args in c.head_in-2.result ≡ head_of a.t.now a.w.now a.i 1 =
-        let start = c in c.head_in-2.ensures.value ∙ head_at start.requires.apart start.args.i 1 in
-    let set = c in
-    let task = set in
-    let taken = task in
-    by-sets _ _ _ _ _ _ (fails taken.is_taken.ensures task.if-is_taken.false) (λ e. set.if-head_in-u.false (task-is ∙ e))
+    c.head_in-2.ensures.value ∙ head_at c.requires.apart c.args.i 1 in
+    by-sets _ _ _ _ _ _ (fails c.is_taken.ensures c.if-is_taken.false) (λ e. c.if-head_in-u.false (task-is ∙ e))
     (rw set_is at c.disjoint.ensures)

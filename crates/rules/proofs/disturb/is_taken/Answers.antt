@@ -14,29 +14,24 @@ natural-v-requires c =
 pub word_at-requires-4 : goal.word_at-requires-4
 word_at-requires-4 c =
     let variable-is : let a = c.args in c.natural-v.result ≡ number_at a.heads.now (3 * a.i + 2) =
-        c.natural-v.ensures ∙ ap number_of (read_back c.word_at.type_inv ∙ c.word_at.ensures) in
-    let v = c in rw variable-is v.requires.readable.row_low
+    c.natural-v.ensures ∙ ap number_of (read_back c.word_at.type_inv ∙ c.word_at.ensures) in
+    rw variable-is c.requires.readable.row_low
 
 pub word_at-requires-5 : goal.word_at-requires-5
 word_at-requires-5 c =
     let variable-is : let a = c.args in c.natural-v.result ≡ number_at a.heads.now (3 * a.i + 2) =
-        c.natural-v.ensures ∙ ap number_of (read_back c.word_at.type_inv ∙ c.word_at.ensures) in
-    let v = c in rw variable-is v.requires.readable.row-high
+    c.natural-v.ensures ∙ ap number_of (read_back c.word_at.type_inv ∙ c.word_at.ensures) in
+    rw variable-is c.requires.readable.row-high
 
 pub returns : goal.returns
 returns c =
     let variable-is : let a = c.args in c.natural-v.result ≡ number_at a.heads.now (3 * a.i + 2) =
-        c.natural-v.ensures ∙ ap number_of (read_back c.word_at.type_inv ∙ c.word_at.ensures) in
-    let high = c in
-    let low = high in
-    let to = low in
-    let from = to in
-    let v = from in
+    c.natural-v.ensures ∙ ap number_of (read_back c.word_at.type_inv ∙ c.word_at.ensures) in
     rw (
-      read_back high.word_at-5.type_inv ∙ high.word_at-5.ensures,
-      read_back low.word_at-4.type_inv ∙ low.word_at-4.ensures,
-      read_back to.word_at-3.type_inv ∙ to.word_at-3.ensures,
-      read_back from.word_at-2.type_inv ∙ from.word_at-2.ensures,
+      read_back c.word_at-5.type_inv ∙ c.word_at-5.ensures,
+      read_back c.word_at-4.type_inv ∙ c.word_at-4.ensures,
+      read_back c.word_at-3.type_inv ∙ c.word_at-3.ensures,
+      read_back c.word_at-2.type_inv ∙ c.word_at-2.ensures,
       variable-is,
     ) at c.is_inside.ensures
-    ∙ takes-is v.requires.apart _ v.requires.readable
+    ∙ takes-is c.requires.apart _ c.requires.readable

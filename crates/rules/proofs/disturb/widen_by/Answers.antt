@@ -17,28 +17,25 @@ natural-v-requires c =
 
 pub returns : goal.returns
 returns c =
-    let variable-is : let start = c in c.natural-v.result ≡ number_at start.args.heads.now (3 * start.args.i + 2) =
-        c.natural-v.ensures ∙ ap number_of (read_back c.word_at.type_inv ∙ c.word_at.ensures) in
+    let variable-is : c.natural-v.result ≡ number_at c.args.heads.now (3 * c.args.i + 2) =
+    c.natural-v.ensures ∙ ap number_of (read_back c.word_at.type_inv ∙ c.word_at.ensures) in
     let slot : c.natural-v.result < 16 =
-        rw variable-is (c.requires.listed.0.variable _ c.requires.listed.1) in
-    let to = c in
-    let from = to in
-    let v = from in
-    let start = v in
+    rw variable-is (c.requires.listed.0.variable _ c.requires.listed.1) in
     rw c.widen_to.ensures (
-      simp length-set start.requires.row_len.0,
-      around-next start.args.row.now start.requires.row_len.0 slot variable-is (read_back from.word_at-2.type_inv ∙ from.word_at-2.ensures) (read_back to.word_at-3.type_inv ∙ to.word_at-3.ensures)
-          start.requires.row_len.1,
+      simp length-set c.requires.row_len.0,
+      around-next c.args.row.now c.requires.row_len.0 slot variable-is (read_back c.word_at-2.type_inv ∙ c.word_at-2.ensures)
+          (read_back c.word_at-3.type_inv ∙ c.word_at-3.ensures)
+          c.requires.row_len.1,
     )
 
 pub returns-then-head_in-u : goal.returns-then-head_in-u
 returns-then-head_in-u c =
-    let start = c in (start.requires.row_len.0, around-own start.args.row.now (sym c.head_in.ensures.value ∙ c.if-head_in-u.true) start.requires.row_len.1)
+    (c.requires.row_len.0, around-own c.args.row.now (sym c.head_in.ensures.value ∙ c.if-head_in-u.true) c.requires.row_len.1)
 
 pub widen_to-requires : goal.widen_to-requires
 widen_to-requires c =
-    let variable-is : let start = c in c.natural-v.result ≡ number_at start.args.heads.now (3 * start.args.i + 2) =
-        c.natural-v.ensures ∙ ap number_of (read_back c.word_at.type_inv ∙ c.word_at.ensures) in
+    let variable-is : c.natural-v.result ≡ number_at c.args.heads.now (3 * c.args.i + 2) =
+    c.natural-v.ensures ∙ ap number_of (read_back c.word_at.type_inv ∙ c.word_at.ensures) in
     let slot : c.natural-v.result < 16 =
-        rw variable-is (c.requires.listed.0.variable _ c.requires.listed.1) in
+    rw variable-is (c.requires.listed.0.variable _ c.requires.listed.1) in
     slot

@@ -16,10 +16,8 @@ same-words row v u e f = rw (e, f)
 
 pub returns : goal.returns
 returns c =
-    let low = c in
-    let start = low in
-    let row = start.args.row.now in
-    let v = start.args.v in
+    let row = c.args.row.now in
+    let v = c.args.v in
     same-words row v (v + 16)
-    (through-bits min_z {a = word_of row v} (ok32 _ low.min32-arg-1.given) start.ranges.a (ok32 _ low.min32-low.type_inv) low.min32-low.ensures)
-    (through-bits max_z {a = word_of row (v + 16)} (ok32 _ c.max32-arg-1.given) start.ranges.b (ok32 _ c.max32-high.type_inv) c.max32-high.ensures)
+    (through-bits min_z {a = word_of row v} (ok32 _ c.min32-arg-1.given) c.ranges.a (ok32 _ c.min32-low.type_inv) c.min32-low.ensures)
+    (through-bits max_z {a = word_of row (v + 16)} (ok32 _ c.max32-arg-1.given) c.ranges.b (ok32 _ c.max32-high.type_inv) c.max32-high.ensures)

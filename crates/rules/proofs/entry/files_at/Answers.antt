@@ -5,14 +5,11 @@ use Rattle.rules.proofs.entry.files_at.Goals as goal
 
 pub returns : goal.returns
 returns c =
-    let variable = c in
-    let set = variable in
-    let task = set in
     headed-files _ _ _ _ _ _ _
     record {
-      task = sym task.head.ensures.value ∙ set.if-head-u.false;
-      set = sym set.head-2.ensures.value ∙ variable.if-head-s.false;
-      variable = sym variable.head-3.ensures.value ∙ c.if-head-v.false;
+      task = sym c.head.ensures.value ∙ c.if-head-u.false;
+      set = sym c.head-2.ensures.value ∙ c.if-head-s.false;
+      variable = sym c.head-3.ensures.value ∙ c.if-head-v.false;
     }
     (rw c.entry_range.ensures at c.within.ensures)
 

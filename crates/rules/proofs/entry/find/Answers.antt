@@ -10,28 +10,24 @@ use Rattle.rules.proofs.entry.find.Goals as goal
 pub loop-low-preserved-then-before : goal.loop-low-preserved-then-before
 loop-low-preserved-then-before c =
     let middle-below-high : let at = c.loop-low in at.low + (at.high - at.low) / 2 < at.high =
-        middle-below c.loop-low.low c.loop-low.high c.loop-low-test.true in
-    let turn = c in
-    halve-up _ turn.loop-low.invariant (before_falls _ _ turn.requires.order _ _ _) middle-below-high
+    middle-below c.loop-low.low c.loop-low.high c.loop-low-test.true in
+    halve-up _ c.loop-low.invariant (before_falls _ _ c.requires.order _ _ _) middle-below-high
     (holds {b = before_of _ _ _ _ _ _} c.before-in-loop-low.ensures c.if-before.true)
 
 pub loop-low-preserved : goal.loop-low-preserved
 loop-low-preserved c =
     let middle-below-high : let at = c.loop-low in at.low + (at.high - at.low) / 2 < at.high =
-        middle-below c.loop-low.low c.loop-low.high c.loop-low-test.true in
-    let turn = c in
-    halve-down _ turn.loop-low.invariant (before_falls _ _ turn.requires.order _ _ _) middle-below-high (omega arith)
+    middle-below c.loop-low.low c.loop-low.high c.loop-low-test.true in
+    halve-down _ c.loop-low.invariant (before_falls _ _ c.requires.order _ _ _) middle-below-high (omega arith)
     (fails {b = before_of _ _ _ _ _ _} c.before-in-loop-low.ensures c.if-before.false)
 
 pub returns-then-low-count : goal.returns-then-low-count
 returns-then-low-count c =
-    let loop = c in
-    halved-at loop.loop-low.invariant c.loop-low-test.false (rw loop.entries-count.ensures.value at c.if-low-count.true)
+    halved-at c.loop-low.invariant c.loop-low-test.false (rw c.entries-count.ensures.value at c.if-low-count.true)
 
 pub returns : goal.returns
 returns c =
-    let loop = c in
-    halved_none loop.loop-low.invariant c.loop-low-test.false (rw loop.entries-count.ensures.value at c.if-low-count.false)
+    halved_none c.loop-low.invariant c.loop-low-test.false (rw c.entries-count.ensures.value at c.if-low-count.false)
 
 pub loop-low-init : goal.loop-low-init
 loop-low-init c =
@@ -40,35 +36,35 @@ loop-low-init c =
 pub overflow_add-middle : goal.overflow_add-middle
 overflow_add-middle c =
     let middle-below-high : let at = c.loop-low in at.low + (at.high - at.low) / 2 < at.high =
-        middle-below c.loop-low.low c.loop-low.high c.loop-low-test.true in
+    middle-below c.loop-low.low c.loop-low.high c.loop-low-test.true in
     let middle-small : let at = c.loop-low in at.low + (at.high - at.low) / 2 < 512 =
-        omega (arith, middle-below-high, c.loop-low.invariant.within, c.requires.bounded.entries) in
+    omega (arith, middle-below-high, c.loop-low.invariant.within, c.requires.bounded.entries) in
     omega (arith, middle-small)
 
 pub before-requires : goal.before-requires
 before-requires c =
     let middle-below-high : let at = c.loop-low in at.low + (at.high - at.low) / 2 < at.high =
-        middle-below c.loop-low.low c.loop-low.high c.loop-low-test.true in
+    middle-below c.loop-low.low c.loop-low.high c.loop-low-test.true in
     let middle-small : let at = c.loop-low in at.low + (at.high - at.low) / 2 < 512 =
-        omega (arith, middle-below-high, c.loop-low.invariant.within, c.requires.bounded.entries) in
+    omega (arith, middle-below-high, c.loop-low.invariant.within, c.requires.bounded.entries) in
     record { heads_value = c.heads-all.ensures; i_bound = omega (arith, middle-small) }
 
 pub overflow_add-low : goal.overflow_add-low
 overflow_add-low c =
     let middle-below-high : let at = c.loop-low in at.low + (at.high - at.low) / 2 < at.high =
-        middle-below c.loop-low.low c.loop-low.high c.loop-low-test.true in
+    middle-below c.loop-low.low c.loop-low.high c.loop-low-test.true in
     let middle-small : let at = c.loop-low in at.low + (at.high - at.low) / 2 < 512 =
-        omega (arith, middle-below-high, c.loop-low.invariant.within, c.requires.bounded.entries) in
+    omega (arith, middle-below-high, c.loop-low.invariant.within, c.requires.bounded.entries) in
     omega (arith, middle-small)
 
 pub loop-low-smaller-then-before : goal.loop-low-smaller-then-before
 loop-low-smaller-then-before c =
     let middle-below-high : let at = c.loop-low in at.low + (at.high - at.low) / 2 < at.high =
-        middle-below c.loop-low.low c.loop-low.high c.loop-low-test.true in
+    middle-below c.loop-low.low c.loop-low.high c.loop-low-test.true in
     omega (arith, middle-below-high)
 
 pub loop-low-smaller : goal.loop-low-smaller
 loop-low-smaller c =
     let middle-below-high : let at = c.loop-low in at.low + (at.high - at.low) / 2 < at.high =
-        middle-below c.loop-low.low c.loop-low.high c.loop-low-test.true in
+    middle-below c.loop-low.low c.loop-low.high c.loop-low-test.true in
     omega (arith, middle-below-high)

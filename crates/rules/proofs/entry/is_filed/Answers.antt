@@ -12,23 +12,17 @@ returns-in_default c = rw c.in_default.is
 
 pub returns-in_default-find : goal.returns-in_default-find
 returns-in_default-find c =
-    let find = c in
-    let x = find in
-    rw x.in-Between.is (none-filed _ _ x.requires.order _ _ _ find.find.ensures _ _ c.in_default-find.is)
+    rw c.in-Between.is (none-filed _ _ c.requires.order _ _ _ c.find.ensures _ _ c.in_default-find.is)
 
 pub files_at-requires : goal.files_at-requires
 files_at-requires c =
-    let find = c in
-    let ready = find.requires in
-    record { bounded = ready.bounded; i_bound = omega (arith, ready.bounded.entries, found_below _ _ ready.order _ _ _ find.find.ensures _ c.in-At.is) }
+    let ready = c.requires in
+    record { bounded = ready.bounded; i_bound = omega (arith, ready.bounded.entries, found_below _ _ ready.order _ _ _ c.find.ensures _ c.in-At.is) }
 
 pub returns : goal.returns
 returns c =
-    let i = c in
-    let find = i in
-    let x = find in
-    let low = read_back {z = x.in-Between.low} find.in-Between.known_told-1-own.given.0.1 in
-    let high = read_back {z = x.in-Between.high} find.in-Between.known_told-1-own.given.1.0.1 in
-    rw x.in-Between.is
-    (found-files _ _ x.requires.order _ _ _ find.find.ensures _ _ _ i.in-At.is
+    let low = read_back {z = c.in-Between.low} c.in-Between.known_told-1-own.given.0.1 in
+    let high = read_back {z = c.in-Between.high} c.in-Between.known_told-1-own.given.1.0.1 in
+    rw c.in-Between.is
+    (found-files _ _ c.requires.order _ _ _ c.find.ensures _ _ _ c.in-At.is
     (rw (low, high) at c.files_at.ensures))

@@ -24,7 +24,7 @@ unfolding examined_of
 returns-in-Broken c =
     let done = c.ready-before.ensures in
     let is = stop _ c.in-Broken.is done in
-    (is, (ap stage_numbers is, marks-kept _ _ _ done c.in-Broken.is))
+    record { value = is; result_value = ap stage_numbers is; marks_after = marks-kept _ _ _ done c.in-Broken.is }
 
 pub enum_told-in_default : goal.enum_told-in_default
 unfolding examined_of
@@ -35,7 +35,7 @@ pub outcomes-flowing-requires : goal.outcomes-flowing-requires
 unfolding examined_of
 outcomes-flowing-requires c =
     let passed : let a = c.args in ready_of a.t.now a.w.now ≡ Passed =
-        sym c.ready-before.ensures ∙ c.in_default.is in
+    sym c.ready-before.ensures ∙ c.in_default.is in
     ready _ _ passed
 
 pub enum_told-in-Broken-flowing : goal.enum_told-in-Broken-flowing
@@ -47,12 +47,10 @@ pub returns-in-Broken-flowing : goal.returns-in-Broken-flowing
 unfolding examined_of
 returns-in-Broken-flowing c =
     let passed : let a = c.args in ready_of a.t.now a.w.now ≡ Passed =
-        sym c.ready-before.ensures ∙ c.in_default.is in
-    let flowing = c in
-    let before = flowing in
-    let is = go passed (stop _ c.in-Broken-flowing.is flowing.outcomes-flowing.ensures.value) in
-    let marked = marks-made _ _ _ before.ready-before.ensures before.in_default.is flowing.outcomes-flowing.ensures.marks_after in
-    (is, (ap stage_numbers is, marked))
+    sym c.ready-before.ensures ∙ c.in_default.is in
+    let is = go passed (stop _ c.in-Broken-flowing.is c.outcomes-flowing.ensures.value) in
+    let marked = marks-made _ _ _ c.ready-before.ensures c.in_default.is c.outcomes-flowing.ensures.marks_after in
+    record { value = is; result_value = ap stage_numbers is; marks_after = marked }
 
 pub enum_told-in_default-flowing : goal.enum_told-in_default-flowing
 unfolding examined_of
@@ -63,16 +61,14 @@ pub shared-requires : goal.shared-requires
 unfolding examined_of
 shared-requires c =
     let passed : let a = c.args in ready_of a.t.now a.w.now ≡ Passed =
-        sym c.ready-before.ensures ∙ c.in_default.is in
+    sym c.ready-before.ensures ∙ c.in_default.is in
     ready _ _ passed
 
 pub returns : goal.returns
 unfolding examined_of
 returns c =
     let passed : let a = c.args in ready_of a.t.now a.w.now ≡ Passed =
-        sym c.ready-before.ensures ∙ c.in_default.is in
-    let flowing = c in
-    let before = flowing in
-    let is = go passed (go (sym flowing.outcomes-flowing.ensures.value ∙ c.in_default-flowing.is) c.shared.ensures) in
-    let marked = marks-made _ _ _ before.ready-before.ensures before.in_default.is flowing.outcomes-flowing.ensures.marks_after in
-    (is, (ap stage_numbers is, marked))
+    sym c.ready-before.ensures ∙ c.in_default.is in
+    let is = go passed (go (sym c.outcomes-flowing.ensures.value ∙ c.in_default-flowing.is) c.shared.ensures) in
+    let marked = marks-made _ _ _ c.ready-before.ensures c.in_default.is c.outcomes-flowing.ensures.marks_after in
+    record { value = is; result_value = ap stage_numbers is; marks_after = marked }

@@ -21,24 +21,22 @@ pub returns-in-At : goal.returns-in-At
 unfolding layout_stage
 returns-in-At c =
     let proposal : List ℤ =
-        c.args.w.now in
+    c.args.w.now in
     let long : leb 4 (length proposal) ≡ true =
-        le-leb _ _ c.if-n-lt4.false in
-    let sizes = c in
-    pass-if _ _ long (halt _ (sym sizes.first_size.ensures ∙ c.in-At.is))
+    le-leb _ _ c.if-n-lt4.false in
+    pass-if _ _ long (halt _ (sym c.first_size.ensures ∙ c.in-At.is))
 
 pub returns-then-n-lows_from : goal.returns-then-n-lows_from
 unfolding layout_stage proposal_length
 returns-then-n-lows_from c =
     let proposal : List ℤ =
-        c.args.w.now in
+    c.args.w.now in
     let long : leb 4 (length proposal) ≡ true =
-        le-leb _ _ c.if-n-lt4.false in
-    let sized : let s = c in first_bad (rule8 s.args.t.now proposal) 4 ≡ Nothing =
-        sym c.first_size.ensures ∙ c.in_default.is in
-    let computed : let s = c in c.lows_from.result + 2 * c.intervals.result ≡ proposal_length s.args.t.now proposal =
-        rw (c.intervals.ensures.value, c.lows_from.ensures.value) in
-    let sizes = c in
+    le-leb _ _ c.if-n-lt4.false in
+    let sized : first_bad (rule8 c.args.t.now proposal) 4 ≡ Nothing =
+    sym c.first_size.ensures ∙ c.in_default.is in
+    let computed : c.lows_from.result + 2 * c.intervals.result ≡ proposal_length c.args.t.now proposal =
+    rw (c.intervals.ensures.value, c.lows_from.ensures.value) in
     pass-if _ _ long (pass _ sized
     (halt-if _ (ne_eqb _ _ (λ e. c.if-n-lows_from.true (e ∙ sym computed))) refl))
 
@@ -46,14 +44,13 @@ pub returns : goal.returns
 unfolding layout_stage proposal_length
 returns c =
     let proposal : List ℤ =
-        c.args.w.now in
+    c.args.w.now in
     let long : leb 4 (length proposal) ≡ true =
-        le-leb _ _ c.if-n-lt4.false in
-    let sized : let s = c in first_bad (rule8 s.args.t.now proposal) 4 ≡ Nothing =
-        sym c.first_size.ensures ∙ c.in_default.is in
-    let computed : let s = c in c.lows_from.result + 2 * c.intervals.result ≡ proposal_length s.args.t.now proposal =
-        rw (c.intervals.ensures.value, c.lows_from.ensures.value) in
-    let sizes = c in
+    le-leb _ _ c.if-n-lt4.false in
+    let sized : first_bad (rule8 c.args.t.now proposal) 4 ≡ Nothing =
+    sym c.first_size.ensures ∙ c.in_default.is in
+    let computed : c.lows_from.result + 2 * c.intervals.result ≡ proposal_length c.args.t.now proposal =
+    rw (c.intervals.ensures.value, c.lows_from.ensures.value) in
     pass-if _ _ long (pass _ sized
     (pass-if _ _ (eq-eqb _ _ (c.if-n-lows_from.false ∙ computed)) refl))
 
@@ -86,7 +83,7 @@ pub intervals-requires : goal.intervals-requires
 unfolding layout_stage
 intervals-requires c =
     let proposal : List ℤ =
-        c.args.w.now in
-    let sized : let s = c in first_bad (rule8 s.args.t.now proposal) 4 ≡ Nothing =
-        sym c.first_size.ensures ∙ c.in_default.is in
-    let sizes = c in sizes-limited sizes.requires sized
+    c.args.w.now in
+    let sized : first_bad (rule8 c.args.t.now proposal) 4 ≡ Nothing =
+    sym c.first_size.ensures ∙ c.in_default.is in
+    sizes-limited c.requires sized

@@ -38,11 +38,11 @@ pub layout-sized-requires : goal.layout-sized-requires
 unfolding ready_of
 layout-sized-requires c =
     let table : List ℤ =
-        c.args.t.now in
+    c.args.t.now in
     let validated : validate_of table ≡ Passed =
-        sym c.validate-table.ensures.value ∙ c.in_default.is in
+    sym c.validate-table.ensures.value ∙ c.in_default.is in
     let passed : Passes table =
-        passes _ validated in
+    passes _ validated in
     passed
 
 pub enum_told-in-Broken-sized : goal.enum_told-in-Broken-sized
@@ -54,10 +54,10 @@ pub returns-in-Broken-sized : goal.returns-in-Broken-sized
 unfolding ready_of
 returns-in-Broken-sized c =
     let table : List ℤ =
-        c.args.t.now in
+    c.args.t.now in
     let validated : validate_of table ≡ Passed =
-        sym c.validate-table.ensures.value ∙ c.in_default.is in
-    let layout = c in go validated (stop _ c.in-Broken-sized.is layout.layout-sized.ensures)
+    sym c.validate-table.ensures.value ∙ c.in_default.is in
+    go validated (stop _ c.in-Broken-sized.is c.layout-sized.ensures)
 
 pub enum_told-in_default-sized : goal.enum_told-in_default-sized
 unfolding ready_of
@@ -68,17 +68,17 @@ pub words-read-requires : goal.words-read-requires
 unfolding ready_of
 words-read-requires c =
     let table : List ℤ =
-        c.args.t.now in
+    c.args.t.now in
     let proposal : List ℤ =
-        c.args.w.now in
-    let sized : let s = c in layout_stage table proposal ≡ Passed =
-        sym c.layout-sized.ensures ∙ c.in_default-sized.is in
+    c.args.w.now in
+    let sized : layout_stage table proposal ≡ Passed =
+    sym c.layout-sized.ensures ∙ c.in_default-sized.is in
     let validated : validate_of table ≡ Passed =
-        sym c.validate-table.ensures.value ∙ c.in_default.is in
+    sym c.validate-table.ensures.value ∙ c.in_default.is in
     let passed : Passes table =
-        passes _ validated in
-    let bounds : let s = c in Bounded table proposal =
-        layout-bounded passed sized in
+    passes _ validated in
+    let bounds : Bounded table proposal =
+    layout-bounded passed sized in
     bounds
 
 pub enum_told-in-Broken-read : goal.enum_told-in-Broken-read
@@ -90,16 +90,14 @@ pub returns-in-Broken-read : goal.returns-in-Broken-read
 unfolding ready_of
 returns-in-Broken-read c =
     let table : List ℤ =
-        c.args.t.now in
+    c.args.t.now in
     let validated : validate_of table ≡ Passed =
-        sym c.validate-table.ensures.value ∙ c.in_default.is in
+    sym c.validate-table.ensures.value ∙ c.in_default.is in
     let proposal : List ℤ =
-        c.args.w.now in
-    let sized : let s = c in layout_stage table proposal ≡ Passed =
-        sym c.layout-sized.ensures ∙ c.in_default-sized.is in
-    let words = c in
-    let layout = words in
-    go validated (go sized (stop _ c.in-Broken-read.is words.words-read.ensures))
+    c.args.w.now in
+    let sized : layout_stage table proposal ≡ Passed =
+    sym c.layout-sized.ensures ∙ c.in_default-sized.is in
+    go validated (go sized (stop _ c.in-Broken-read.is c.words-read.ensures))
 
 pub enum_told-in_default-read : goal.enum_told-in_default-read
 unfolding ready_of
@@ -110,32 +108,30 @@ pub start-requires : goal.start-requires
 unfolding ready_of
 start-requires c =
     let table : List ℤ =
-        c.args.t.now in
+    c.args.t.now in
     let validated : validate_of table ≡ Passed =
-        sym c.validate-table.ensures.value ∙ c.in_default.is in
+    sym c.validate-table.ensures.value ∙ c.in_default.is in
     let passed : Passes table =
-        passes _ validated in
+    passes _ validated in
     let proposal : List ℤ =
-        c.args.w.now in
-    let sized : let s = c in layout_stage table proposal ≡ Passed =
-        sym c.layout-sized.ensures ∙ c.in_default-sized.is in
-    let bounds : let s = c in Bounded table proposal =
-        layout-bounded passed sized in
-    let layout = c in record { passes = passed; bounded = bounds }
+    c.args.w.now in
+    let sized : layout_stage table proposal ≡ Passed =
+    sym c.layout-sized.ensures ∙ c.in_default-sized.is in
+    let bounds : Bounded table proposal =
+    layout-bounded passed sized in
+    record { passes = passed; bounded = bounds }
 
 pub returns : goal.returns
 unfolding ready_of
 returns c =
     let table : List ℤ =
-        c.args.t.now in
+    c.args.t.now in
     let validated : validate_of table ≡ Passed =
-        sym c.validate-table.ensures.value ∙ c.in_default.is in
+    sym c.validate-table.ensures.value ∙ c.in_default.is in
     let proposal : List ℤ =
-        c.args.w.now in
-    let sized : let s = c in layout_stage table proposal ≡ Passed =
-        sym c.layout-sized.ensures ∙ c.in_default-sized.is in
-    let read : let s = c in words_stage table proposal ≡ Passed =
-        sym c.words-read.ensures ∙ c.in_default-read.is in
-    let words = c in
-    let layout = words in
+    c.args.w.now in
+    let sized : layout_stage table proposal ≡ Passed =
+    sym c.layout-sized.ensures ∙ c.in_default-sized.is in
+    let read : words_stage table proposal ≡ Passed =
+    sym c.words-read.ensures ∙ c.in_default-read.is in
     go validated (go sized (go read c.start.ensures))

@@ -35,7 +35,7 @@ enum_told-1 c =
 pub first_start_rest-requires : goal.first_start_rest-requires
 unfolding start_stage
 first_start_rest-requires c =
-    let whole = c in (whole.requires.passes, (whole.requires.bounded, rests-fit whole.whole-scope.ensures whole.requires.bounded))
+    record { passes = c.requires.passes; bounded = c.requires.bounded; t_bound = rests-fit c.whole-scope.ensures c.requires.bounded }
 
 pub enum_known-p-in-At-first_start_rest : goal.enum_known-p-in-At-first_start_rest
 unfolding start_stage
@@ -46,10 +46,8 @@ pub returns-in-At-first_start_rest : goal.returns-in-At-first_start_rest
 unfolding start_stage
 returns-in-At-first_start_rest c =
     let rests-searched : let a = c.args in c.first_start_rest.result ≡ first_bad_in (rule11 a.t.now a.w.now) (whole_of a.t.now a.w.now).rests =
-        rw c.whole-scope.ensures at c.first_start_rest.ensures in
-    let rests = c in
-    let points = rests in
-    pass _ (sym points.first_start_point.ensures ∙ points.in_default.is)
+    rw c.whole-scope.ensures at c.first_start_rest.ensures in
+    pass _ (sym c.first_start_point.ensures ∙ c.in_default.is)
     (halt _ (sym rests-searched ∙ c.in-At-first_start_rest.is))
 
 pub enum_told-in_default-first_start_rest : goal.enum_told-in_default-first_start_rest
@@ -61,8 +59,6 @@ pub returns : goal.returns
 unfolding start_stage
 returns c =
     let rests-searched : let a = c.args in c.first_start_rest.result ≡ first_bad_in (rule11 a.t.now a.w.now) (whole_of a.t.now a.w.now).rests =
-        rw c.whole-scope.ensures at c.first_start_rest.ensures in
-    let rests = c in
-    let points = rests in
-    pass _ (sym points.first_start_point.ensures ∙ points.in_default.is)
+    rw c.whole-scope.ensures at c.first_start_rest.ensures in
+    pass _ (sym c.first_start_point.ensures ∙ c.in_default.is)
     (pass _ (sym rests-searched ∙ c.in_default-first_start_rest.is) refl)

@@ -3,7 +3,4 @@ use Rattle.rules.proofs.examine.whole.Goals as goal
 
 pub returns : goal.returns
 returns c =
-    let entries = c in
-    let rests = entries in
-    let points = rests in
-    rw (c.places-3.ensures, rests.places-2.ensures, points.places.ensures, entries.entries.ensures.value, points.sizes-s.ensures.value)
+    rw (c.places-3.ensures, c.places-2.ensures, c.places.ensures, c.entries.ensures.value, c.sizes-s.ensures.value)

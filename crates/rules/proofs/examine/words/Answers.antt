@@ -38,10 +38,8 @@ enum_known-i-in-At-first_order c =
 pub returns-in-At-first_order : goal.returns-in-At-first_order
 unfolding words_stage
 returns-in-At-first_order c =
-    let order = c in
-    let range = order in
-    pass _ (sym range.first_word.ensures ∙ range.in_default.is)
-    (halt _ (sym order.first_order.ensures ∙ c.in-At-first_order.is))
+    pass _ (sym c.first_word.ensures ∙ c.in_default.is)
+    (halt _ (sym c.first_order.ensures ∙ c.in-At-first_order.is))
 
 pub enum_told-in_default-first_order : goal.enum_told-in_default-first_order
 unfolding words_stage
@@ -51,7 +49,5 @@ enum_told-in_default-first_order c =
 pub returns : goal.returns
 unfolding words_stage
 returns c =
-    let order = c in
-    let range = order in
-    pass _ (sym range.first_word.ensures ∙ range.in_default.is)
-    (pass _ (sym order.first_order.ensures ∙ c.in_default-first_order.is) refl)
+    pass _ (sym c.first_word.ensures ∙ c.in_default.is)
+    (pass _ (sym c.first_order.ensures ∙ c.in_default-first_order.is) refl)

@@ -5,12 +5,10 @@ use Rattle.rules.proofs.order.before.Goals as goal
 pub returns : goal.returns
 unfolding before_of
 returns c =
-    let second = c in
-    let heads = second in
     rw (
       c.is_above-2.ensures,
-      second.is_above.ensures,
-      heads.head-3.ensures.value,
-      heads.head-2.ensures.value,
-      heads.head.ensures.value,
+      c.is_above.ensures,
+      c.head-3.ensures.value,
+      c.head-2.ensures.value,
+      c.head.ensures.value,
     )

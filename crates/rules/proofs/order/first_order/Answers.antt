@@ -7,14 +7,12 @@ use Rattle.rules.proofs.order.first_order.Goals as goal
 
 pub returns-then-not-order_ok : goal.returns-then-not-order_ok
 returns-then-not-order_ok c =
-    let turn = c in
-    rw (← turn.entries-count.ensures.value)
-    (stop turn.loop-i.invariant turn.loop-i-test.true (fails c.order_ok.ensures c.if-not-order_ok.true))
+    rw (← c.entries-count.ensures.value)
+    (stop c.loop-i.invariant c.loop-i-test.true (fails c.order_ok.ensures c.if-not-order_ok.true))
 
 pub loop-i-preserved : goal.loop-i-preserved
 loop-i-preserved c =
-    let turn = c in
-    next turn.loop-i.invariant turn.loop-i-test.true (holds c.order_ok.ensures c.if-not-order_ok.false)
+    next c.loop-i.invariant c.loop-i-test.true (holds c.order_ok.ensures c.if-not-order_ok.false)
 
 pub loop-i-init : goal.loop-i-init
 loop-i-init c =

@@ -6,15 +6,13 @@ use Rattle.rules.proofs.order.order_ok.Goals as goal
 
 pub returns : goal.returns
 returns c =
-    let heads = c in
-    let entry = heads in
-    let a = entry.args in
+    let a = c.args in
     rw (
-      order_is a.t.now a.w.now a.i entry.if-i-eq0.false,
+      order_is a.t.now a.w.now a.i c.if-i-eq0.false,
       c.before-2.ensures,
-      heads.head-3.ensures.value,
-      heads.head-2.ensures.value,
-      heads.head.ensures.value,
+      c.head-3.ensures.value,
+      c.head-2.ensures.value,
+      c.head.ensures.value,
     )
 
 pub returns-then-i-eq0 : goal.returns-then-i-eq0

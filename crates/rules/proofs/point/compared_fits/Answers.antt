@@ -14,36 +14,41 @@ use Rattle.rules.proofs.point.compared_fits.Goals as goal
 pub returns : goal.returns
 unfolding cond_alarms_of
 returns c =
-    let other = c in
-    let taken = other in
-    let no = taken in
-    let yes = no in
-    let right-at = yes in
-    let left_at = right-at in
-    let right = left_at in
-    let left = right in
-    let a = left.args in
-    let v = left_at.variable_or-v.ensures in
-    let u = right-at.variable_or-x.ensures in record { value = c.both_sides.ensures
+    let a = c.args in
+    let v = c.variable_or-v.ensures in
+    let u = c.variable_or-x.ensures in record {
+      value = c.both_sides.ensures
           ∙ both-fit a.t.now a.w.now (compare 0 a.k (arith_at a.nodes.now a.a) (arith_at a.nodes.now a.b)) a.y a.n a.s
           (row_of a.lows.now a.highs.now)
-          (compared-side _ _ _ _ _ _ _ _ _ left.value_on-left.ensures.value right.value_on-right.ensures.value v u yes.cuts-yes.ensures taken.cut_side-taken.ensures)
-          (compared-side _ _ _ _ _ _ _ _ _ left.value_on-left.ensures.value right.value_on-right.ensures.value v u no.cuts-no.ensures other.cut_side-other.ensures); marks_after = marked-then _ _ _ left.value_on-left.ensures.marks_after right.value_on-right.ensures.marks_after }
+          (compared-side _ _ _ _ _ _ _ _ _ c.value_on-left.ensures.value c.value_on-right.ensures.value v u c.cuts-yes.ensures c.cut_side-taken.ensures)
+          (compared-side _ _ _ _ _ _ _ _ _ c.value_on-left.ensures.value c.value_on-right.ensures.value v u c.cuts-no.ensures c.cut_side-other.ensures);
+      marks_after = marked-then _ _ _ c.value_on-left.ensures.marks_after c.value_on-right.ensures.marks_after;
+    }
 
 pub cut_side-taken-requires : goal.cut_side-taken-requires
 cut_side-taken-requires c =
     let differ : c.variable_or-v.result ≡ c.variable_or-x.result → c.variable_or-v.result < 16 =
-        λ e. let v = c.variable_or-v.ensures in rw v (slots-differ _ _ (rw (v, c.variable_or-x.ensures) at e)) in
-    let at = c in
-    (at.requires.rows, (at.requires.whole, (at.requires.y_bound.0, (differ, cuts-taken _ _ _ _ c.cuts-yes.ensures))))
+    λ e. let v = c.variable_or-v.ensures in rw v (slots-differ _ _ (rw (v, c.variable_or-x.ensures) at e)) in
+    record {
+      rows = c.requires.rows;
+      whole = c.requires.whole;
+      q_bound = c.requires.y_bound.0;
+      v_bound = differ;
+      left_value = cuts-taken _ _ _ _ c.cuts-yes.ensures;
+    }
 
 pub cut_side-other-requires : goal.cut_side-other-requires
 cut_side-other-requires c =
     let differ : c.variable_or-v.result ≡ c.variable_or-x.result → c.variable_or-v.result < 16 =
-        λ e. let v = c.variable_or-v.ensures in rw v (slots-differ _ _ (rw (v, c.variable_or-x.ensures) at e)) in
-    let at = c in
-    (at.requires.rows, (at.requires.whole, (at.requires.y_bound.1, (differ, cuts-taken _ _ _ _ c.cuts-no.ensures))))
+    λ e. let v = c.variable_or-v.ensures in rw v (slots-differ _ _ (rw (v, c.variable_or-x.ensures) at e)) in
+    record {
+      rows = c.requires.rows;
+      whole = c.requires.whole;
+      q_bound = c.requires.y_bound.1;
+      v_bound = differ;
+      left_value = cuts-taken _ _ _ _ c.cuts-no.ensures;
+    }
 
 pub shape_of-marks : goal.shape_of-marks
 shape_of-marks c =
-    let right = c in right.marks-2-1.given ∙ right.marks-1.given
+    c.marks-2-1.given ∙ c.marks-1.given

@@ -7,19 +7,16 @@ use Rattle.rules.proofs.points.faults.Goals as goal
 
 pub point_fits-fits-requires : goal.point_fits-fits-requires
 point_fits-fits-requires c =
-    let highs = c in
-    let lows = highs in
-    let nodes = lows in
-    let pre = highs.requires in (
-      record { ready = pre.0; lows = lows.lows-all_lows.ensures; highs = highs.highs-all_highs.ensures },
-      (nodes.point_words-points.ensures, (nodes.node_words-nodes.ensures, omega (arith, pre.1.1, c.loop-p-test.true))),
-    )
+    record {
+      rows = record { ready = c.requires.ready; lows = c.lows-all_lows.ensures; highs = c.highs-all_highs.ensures };
+      points_value = c.point_words-points.ensures;
+      nodes_value = c.node_words-nodes.ensures;
+      p_bound = omega (arith, c.requires.from_le_to.1, c.loop-p-test.true);
+    }
 
 pub loop-p-preserved : goal.loop-p-preserved
 loop-p-preserved c =
-    let turn = c in
-    let test = turn in
-    walks test.loop-p.invariant test.loop-p-test.true turn.point_fits-fits.ensures.value c.fault_or-all.ensures turn.point_fits-fits.ensures.marks_after
+    walks c.loop-p.invariant c.loop-p-test.true c.point_fits-fits.ensures.value c.fault_or-all.ensures c.point_fits-fits.ensures.marks_after
 
 pub loop-p-init : goal.loop-p-init
 loop-p-init c =
@@ -31,4 +28,4 @@ shape_of-marks c =
 
 pub returns : goal.returns
 returns c =
-    walked c.loop-p.invariant c.loop-p-test.false
+    let e = walked c.loop-p.invariant c.loop-p-test.false in record { value = e.0; marks_after = e.1 }

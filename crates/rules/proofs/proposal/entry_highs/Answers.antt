@@ -13,7 +13,7 @@ sizes-s-requires c =
 pub overflow_mul-from : goal.overflow_mul-from
 unfolding entries_at
 overflow_mul-from c =
-    let s = c in rw s.sizes-s.ensures.value (omega (arith, rows_bound (limits s.requires)))
+    rw c.sizes-s.ensures.value (omega (arith, rows_bound (limits c.requires)))
 
 pub entries-count-requires : goal.entries-count-requires
 unfolding entries_at

@@ -7,16 +7,13 @@ use Rattle.rules.proofs.proposal.intervals.Goals as goal
 
 pub overflow_mul-result : goal.overflow_mul-result
 overflow_mul-result c =
-    let s = c in
-    rw s.sizes-s.ensures.value (omega (arith, rows_bound s.requires))
+    rw c.sizes-s.ensures.value (omega (arith, rows_bound c.requires))
 
 pub overflow_add-result-2 : goal.overflow_add-result-2
 overflow_add-result-2 c =
-    let s = c in
-    rw s.sizes-s.ensures.value (omega (arith, rows_bound s.requires, c.entries.ensures.upper_bound))
+    rw c.sizes-s.ensures.value (omega (arith, rows_bound c.requires, c.entries.ensures.upper_bound))
 
 pub returns : goal.returns
 unfolding intervals_of
 returns c =
-    let s = c in
-    rw (s.sizes-s.ensures.value, c.entries.ensures.value) (refl, intervals-bound s.requires)
+    rw (c.sizes-s.ensures.value, c.entries.ensures.value) (record { value = refl; upper_bound = intervals-bound c.requires })

@@ -14,27 +14,22 @@ use Rattle.rules.proofs.range.first_end.Goals as goal
 -- both ends are there
 pub ends_ok-requires : goal.ends_ok-requires
 ends_ok-requires c =
-    let sizes = c in
-    let highs = sizes in
-    let bounded = sizes.requires.bounded in
-    let below = rw sizes.intervals-count.ensures.value at c.loop-k-test.true in
-    (rw (highs.lows-low.ensures, lows-length bounded) below, rw (highs.highs-high.ensures, highs-length bounded) below)
+    let bounded = c.requires.bounded in
+    let below = rw c.intervals-count.ensures.value at c.loop-k-test.true in
+    (rw (c.lows-low.ensures, lows-length bounded) below, rw (c.highs-high.ensures, highs-length bounded) below)
 
 pub returns-then-not-ends_ok : goal.returns-then-not-ends_ok
 returns-then-not-ends_ok c =
-    let tested : let loop = c in let a = loop.args in c.ends_ok.result ≡ rule9 a.t.now a.w.now (lows_from a.t.now a.w.now + loop.loop-k.k) =
-        let highs = c in tested-end _ _ _ c.ends_ok.ensures highs.lows-low.ensures highs.highs-high.ensures in
-    let turn = c in
-    let sizes = turn in
-    rw (← sizes.intervals-count.ensures.value, sizes.lows_from-ends.ensures.value)
-    (stop turn.loop-k.invariant (omega (arith, turn.loop-k-test.true)) (fails tested c.if-not-ends_ok.true))
+    let tested : let a = c.args in c.ends_ok.result ≡ rule9 a.t.now a.w.now (lows_from a.t.now a.w.now + c.loop-k.k) =
+    tested-end _ _ _ c.ends_ok.ensures c.lows-low.ensures c.highs-high.ensures in
+    rw (← c.intervals-count.ensures.value, c.lows_from-ends.ensures.value)
+    (stop c.loop-k.invariant (omega (arith, c.loop-k-test.true)) (fails tested c.if-not-ends_ok.true))
 
 pub loop-k-preserved : goal.loop-k-preserved
 loop-k-preserved c =
-    let tested : let loop = c in let a = loop.args in c.ends_ok.result ≡ rule9 a.t.now a.w.now (lows_from a.t.now a.w.now + loop.loop-k.k) =
-        let highs = c in tested-end _ _ _ c.ends_ok.ensures highs.lows-low.ensures highs.highs-high.ensures in
-    let turn = c in
-    ends_next _ _ _ turn.loop-k.invariant turn.loop-k-test.true (holds tested c.if-not-ends_ok.false)
+    let tested : let a = c.args in c.ends_ok.result ≡ rule9 a.t.now a.w.now (lows_from a.t.now a.w.now + c.loop-k.k) =
+    tested-end _ _ _ c.ends_ok.ensures c.lows-low.ensures c.highs-high.ensures in
+    ends_next _ _ _ c.loop-k.invariant c.loop-k-test.true (holds tested c.if-not-ends_ok.false)
 
 pub returns : goal.returns
 returns c =

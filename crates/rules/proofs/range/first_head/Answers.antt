@@ -17,57 +17,45 @@ use Rattle.rules.proofs.range.first_head.Goals as goal
 pub returns-then-tasks-number_in : goal.returns-then-tasks-number_in
 returns-then-tasks-number_in c =
     let below : let a = c.args in c.loop-i.i < lows_from a.t.now a.w.now =
-        rw c.lows_from-ends.ensures.value at c.loop-i-test.true in
-    let turn = c in
-    let inv = turn.loop-i.invariant in
-    let tasks = turn in
+    rw c.lows_from-ends.ensures.value at c.loop-i-test.true in
+    let inv = c.loop-i.invariant in
     stop inv.searched below
-    (task-is inv below ∙ le-ltb _ _ (rw (c.number_in.ensures, tasks.number_at.ensures.0) at c.if-tasks-number_in.true))
+    (task-is inv below ∙ le-ltb _ _ (rw (c.number_in.ensures, c.number_at-tasks.ensures.value) at c.if-tasks-number_in.true))
 
 pub returns-then-sets-number_in : goal.returns-then-sets-number_in
 returns-then-sets-number_in c =
     let below : let a = c.args in c.loop-i.i < lows_from a.t.now a.w.now =
-        rw c.lows_from-ends.ensures.value at c.loop-i-test.true in
-    let task-passes : let loop = c in let a = loop.args in rule9 a.t.now a.w.now loop.loop-i.i ≡ true =
-        let turn = c in let tasks = turn in task-is turn.loop-i.invariant below ∙ lt-ltb _ _ (rw (c.number_in.ensures, tasks.number_at.ensures.0) at c.if-tasks-number_in.false) in
-    let passed = c in
-    let turn = passed in
-    let inv = turn.loop-i.invariant in
-    let sets = turn in
+    rw c.lows_from-ends.ensures.value at c.loop-i-test.true in
+    let task-passes : let a = c.args in rule9 a.t.now a.w.now c.loop-i.i ≡ true =
+    task-is c.loop-i.invariant below ∙ lt-ltb _ _ (rw (c.number_in.ensures, c.number_at-tasks.ensures.value) at c.if-tasks-number_in.false) in
+    let inv = c.loop-i.invariant in
     stop (past-task inv below task-passes) (omega (arith, head-inside inv below))
-    (set_is inv below ∙ le-ltb _ _ (rw (c.number_in-in-loop-i.ensures, sets.set-count.ensures) at c.if-sets-number_in.true))
+    (set_is inv below ∙ le-ltb _ _ (rw (c.number_in-in-loop-i.ensures, c.set_count-sets.ensures) at c.if-sets-number_in.true))
 
 pub returns-then-variables-number_in : goal.returns-then-variables-number_in
 returns-then-variables-number_in c =
     let below : let a = c.args in c.loop-i.i < lows_from a.t.now a.w.now =
-        rw c.lows_from-ends.ensures.value at c.loop-i-test.true in
-    let task-passes : let loop = c in let a = loop.args in rule9 a.t.now a.w.now loop.loop-i.i ≡ true =
-        let turn = c in let tasks = turn in task-is turn.loop-i.invariant below ∙ lt-ltb _ _ (rw (c.number_in.ensures, tasks.number_at.ensures.0) at c.if-tasks-number_in.false) in
-    let set-passes : let loop = c in let a = loop.args in rule9 a.t.now a.w.now (loop.loop-i.i + 1) ≡ true =
-        let turn = c in let sets = turn in set_is turn.loop-i.invariant below ∙ lt-ltb _ _ (rw (c.number_in-in-loop-i.ensures, sets.set-count.ensures) at c.if-sets-number_in.false) in
-    let passed = c in
-    let turn = passed in
-    let inv = turn.loop-i.invariant in
-    let variables = turn in
+    rw c.lows_from-ends.ensures.value at c.loop-i-test.true in
+    let task-passes : let a = c.args in rule9 a.t.now a.w.now c.loop-i.i ≡ true =
+    task-is c.loop-i.invariant below ∙ lt-ltb _ _ (rw (c.number_in.ensures, c.number_at-tasks.ensures.value) at c.if-tasks-number_in.false) in
+    let set-passes : let a = c.args in rule9 a.t.now a.w.now (c.loop-i.i + 1) ≡ true =
+    set_is c.loop-i.invariant below ∙ lt-ltb _ _ (rw (c.number_in-in-loop-i.ensures, c.set_count-sets.ensures) at c.if-sets-number_in.false) in
+    let inv = c.loop-i.invariant in
     stop (past-set inv below task-passes set-passes) (head-inside inv below)
-    (variable-is inv below ∙ le-ltb _ _ (rw (c.number_in-in-loop-i-2.ensures, variables.number_at-variables.ensures.value) at c.if-variables-number_in.true))
+    (variable-is inv below ∙ le-ltb _ _ (rw (c.number_in-in-loop-i-2.ensures, c.number_at-variables.ensures.value) at c.if-variables-number_in.true))
 
 pub loop-i-preserved : goal.loop-i-preserved
 loop-i-preserved c =
     let below : let a = c.args in c.loop-i.i < lows_from a.t.now a.w.now =
-        rw c.lows_from-ends.ensures.value at c.loop-i-test.true in
-    let task-passes : let loop = c in let a = loop.args in rule9 a.t.now a.w.now loop.loop-i.i ≡ true =
-        let turn = c in let tasks = turn in task-is turn.loop-i.invariant below ∙ lt-ltb _ _ (rw (c.number_in.ensures, tasks.number_at.ensures.0) at c.if-tasks-number_in.false) in
-    let set-passes : let loop = c in let a = loop.args in rule9 a.t.now a.w.now (loop.loop-i.i + 1) ≡ true =
-        let turn = c in let sets = turn in set_is turn.loop-i.invariant below ∙ lt-ltb _ _ (rw (c.number_in-in-loop-i.ensures, sets.set-count.ensures) at c.if-sets-number_in.false) in
-    let variable-passes : let loop = c in let a = loop.args in rule9 a.t.now a.w.now (loop.loop-i.i + 2) ≡ true =
-        let turn = c in
-        let variables = turn in
-        variable-is turn.loop-i.invariant below ∙ lt-ltb _ _ (rw (c.number_in-in-loop-i-2.ensures, variables.number_at-variables.ensures.value) at c.if-variables-number_in.false) in
-    let set = c in
-    let task = set in
-    let turn = task in
-    head-next turn.loop-i.invariant below task-passes set-passes variable-passes
+    rw c.lows_from-ends.ensures.value at c.loop-i-test.true in
+    let task-passes : let a = c.args in rule9 a.t.now a.w.now c.loop-i.i ≡ true =
+    task-is c.loop-i.invariant below ∙ lt-ltb _ _ (rw (c.number_in.ensures, c.number_at-tasks.ensures.value) at c.if-tasks-number_in.false) in
+    let set-passes : let a = c.args in rule9 a.t.now a.w.now (c.loop-i.i + 1) ≡ true =
+    set_is c.loop-i.invariant below ∙ lt-ltb _ _ (rw (c.number_in-in-loop-i.ensures, c.set_count-sets.ensures) at c.if-sets-number_in.false) in
+    let variable-passes : let a = c.args in rule9 a.t.now a.w.now (c.loop-i.i + 2) ≡ true =
+    variable-is c.loop-i.invariant below
+    ∙ lt-ltb _ _ (rw (c.number_in-in-loop-i-2.ensures, c.number_at-variables.ensures.value) at c.if-variables-number_in.false) in
+    head-next c.loop-i.invariant below task-passes set-passes variable-passes
 
 pub set_count-sets-requires : goal.set_count-sets-requires
 set_count-sets-requires c =
@@ -80,25 +68,25 @@ loop-i-init c =
 pub number_in-requires : goal.number_in-requires
 number_in-requires c =
     let below : let a = c.args in c.loop-i.i < lows_from a.t.now a.w.now =
-        rw c.lows_from-ends.ensures.value at c.loop-i-test.true in
+    rw c.lows_from-ends.ensures.value at c.loop-i-test.true in
     let inside : c.loop-i.i + 2 < length c.args.w.now =
-        early-there c.requires.bounded (head-inside c.loop-i.invariant below) in
+    early-there c.requires.bounded (head-inside c.loop-i.invariant below) in
     omega (arith, inside)
 
 pub number_in-requires-in-loop-i : goal.number_in-requires-in-loop-i
 number_in-requires-in-loop-i c =
     let below : let a = c.args in c.loop-i.i < lows_from a.t.now a.w.now =
-        rw c.lows_from-ends.ensures.value at c.loop-i-test.true in
+    rw c.lows_from-ends.ensures.value at c.loop-i-test.true in
     let inside : c.loop-i.i + 2 < length c.args.w.now =
-        early-there c.requires.bounded (head-inside c.loop-i.invariant below) in
+    early-there c.requires.bounded (head-inside c.loop-i.invariant below) in
     omega (arith, inside)
 
 pub number_in-requires-in-loop-i-2 : goal.number_in-requires-in-loop-i-2
 number_in-requires-in-loop-i-2 c =
     let below : let a = c.args in c.loop-i.i < lows_from a.t.now a.w.now =
-        rw c.lows_from-ends.ensures.value at c.loop-i-test.true in
+    rw c.lows_from-ends.ensures.value at c.loop-i-test.true in
     let inside : c.loop-i.i + 2 < length c.args.w.now =
-        early-there c.requires.bounded (head-inside c.loop-i.invariant below) in
+    early-there c.requires.bounded (head-inside c.loop-i.invariant below) in
     inside
 
 pub returns : goal.returns

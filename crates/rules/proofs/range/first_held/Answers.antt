@@ -13,27 +13,19 @@ use Rattle.rules.proofs.range.first_held.Goals as goal
 
 pub returns-then-not-held_ok : goal.returns-then-not-held_ok
 returns-then-not-held_ok c =
-    let tested : let loop = c in let a = loop.args in c.held_ok.result ≡ rule9 a.t.now a.w.now loop.loop-i.i =
-        let word = c in
-        let turn = word in
-        let heads = turn in
-        rw (read_back word.word_at.type_inv ∙ word.word_at.ensures, heads.set_count-sets.ensures) at c.held_ok.ensures
-        ∙ sym (held_word _ _ _ turn.loop-i.invariant.0 (rw heads.heads_from-heads.ensures.value at turn.loop-i-test.true)) in
-    let turn = c in
-    rw (← turn.heads_from-heads.ensures.value)
-    (stop turn.loop-i.invariant.1 turn.loop-i-test.true (fails tested c.if-not-held_ok.true))
+    let tested : let a = c.args in c.held_ok.result ≡ rule9 a.t.now a.w.now c.loop-i.i =
+    rw (read_back c.word_at.type_inv ∙ c.word_at.ensures, c.set_count-sets.ensures) at c.held_ok.ensures
+    ∙ sym (held_word _ _ _ c.loop-i.invariant.0 (rw c.heads_from-heads.ensures.value at c.loop-i-test.true)) in
+    rw (← c.heads_from-heads.ensures.value)
+    (stop c.loop-i.invariant.1 c.loop-i-test.true (fails tested c.if-not-held_ok.true))
 
 pub loop-i-preserved : goal.loop-i-preserved
 loop-i-preserved c =
-    let tested : let loop = c in let a = loop.args in c.held_ok.result ≡ rule9 a.t.now a.w.now loop.loop-i.i =
-        let word = c in
-        let turn = word in
-        let heads = turn in
-        rw (read_back word.word_at.type_inv ∙ word.word_at.ensures, heads.set_count-sets.ensures) at c.held_ok.ensures
-        ∙ sym (held_word _ _ _ turn.loop-i.invariant.0 (rw heads.heads_from-heads.ensures.value at turn.loop-i-test.true)) in
-    let turn = c in
-    let inv = turn.loop-i.invariant in
-    (omega (arith, inv.0), next inv.1 turn.loop-i-test.true (holds tested c.if-not-held_ok.false))
+    let tested : let a = c.args in c.held_ok.result ≡ rule9 a.t.now a.w.now c.loop-i.i =
+    rw (read_back c.word_at.type_inv ∙ c.word_at.ensures, c.set_count-sets.ensures) at c.held_ok.ensures
+    ∙ sym (held_word _ _ _ c.loop-i.invariant.0 (rw c.heads_from-heads.ensures.value at c.loop-i-test.true)) in
+    let inv = c.loop-i.invariant in
+    (omega (arith, inv.0), next inv.1 c.loop-i-test.true (holds tested c.if-not-held_ok.false))
 
 pub set_count-sets-requires : goal.set_count-sets-requires
 set_count-sets-requires c =
@@ -45,7 +37,7 @@ loop-i-init c =
 
 pub word_at-requires : goal.word_at-requires
 word_at-requires c =
-    let heads = c in held-there heads.requires (rw heads.heads_from-heads.ensures.value at c.loop-i-test.true)
+    held-there c.requires (rw c.heads_from-heads.ensures.value at c.loop-i-test.true)
 
 pub returns : goal.returns
 returns c =

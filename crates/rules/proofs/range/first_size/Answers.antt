@@ -7,13 +7,11 @@ use Rattle.rules.proofs.range.first_size.Goals as goal
 
 pub returns-then-not-size_ok : goal.returns-then-not-size_ok
 returns-then-not-size_ok c =
-    let turn = c in
-    stop turn.loop-k.invariant turn.loop-k-test.true (fails c.size_ok.ensures c.if-not-size_ok.true)
+    stop c.loop-k.invariant c.loop-k-test.true (fails c.size_ok.ensures c.if-not-size_ok.true)
 
 pub loop-k-preserved : goal.loop-k-preserved
 loop-k-preserved c =
-    let turn = c in
-    next turn.loop-k.invariant turn.loop-k-test.true (holds c.size_ok.ensures c.if-not-size_ok.false)
+    next c.loop-k.invariant c.loop-k-test.true (holds c.size_ok.ensures c.if-not-size_ok.false)
 
 pub loop-k-init : goal.loop-k-init
 loop-k-init c =

@@ -18,8 +18,7 @@ enum_known-i c =
 pub returns-in-At : goal.returns-in-At
 unfolding lows_from
 returns-in-At c =
-    let i = c in
-    sym (found-later _ _ _ (found-later _ _ _ (sym i.first_held.ensures ∙ i.in-At.is)))
+    sym (found-later _ _ _ (found-later _ _ _ (sym c.first_held.ensures ∙ c.in-At.is)))
 
 pub enum_told-1 : goal.enum_told-1
 unfolding lows_from
@@ -29,7 +28,7 @@ enum_told-1 c =
 pub first_head-requires : goal.first_head-requires
 unfolding lows_from
 first_head-requires c =
-    let held = c in record { bounded = held.requires; t_value = sym held.first_held.ensures ∙ c.in_default.is }
+    record { bounded = c.requires; t_value = sym c.first_held.ensures ∙ c.in_default.is }
 
 pub enum_known-i-in-At-first_head : goal.enum_known-i-in-At-first_head
 unfolding lows_from
@@ -39,7 +38,7 @@ enum_known-i-in-At-first_head c =
 pub returns-in-At-first_head : goal.returns-in-At-first_head
 unfolding lows_from
 returns-in-At-first_head c =
-    let i = c in sym (found-later _ _ _ (sym i.first_head.ensures ∙ i.in-At-first_head.is))
+    sym (found-later _ _ _ (sym c.first_head.ensures ∙ c.in-At-first_head.is))
 
 pub enum_told-in_default-first_head : goal.enum_told-in_default-first_head
 unfolding lows_from
@@ -49,8 +48,7 @@ enum_told-in_default-first_head c =
 pub first_end-requires : goal.first_end-requires
 unfolding lows_from
 first_end-requires c =
-    let heads = c in
-    record { bounded = heads.requires; w_value = sym heads.first_head.ensures ∙ c.in_default-first_head.is }
+    record { bounded = c.requires; w_value = sym c.first_head.ensures ∙ c.in_default-first_head.is }
 
 pub returns : goal.returns
 unfolding lows_from

@@ -5,9 +5,8 @@ use Rattle.rules.proofs.range.held_ok.Goals as goal
 
 pub returns : goal.returns
 returns c =
-    let start = c in
-    rw (c.number.ensures.value, read_back start.ranges.z.sfits, not-minus-one start.args.z c.if-z-eqminus1.false)
+    rw (c.number.ensures.value, read_back c.ranges.z.sfits, not-minus-one c.args.z c.if-z-eqminus1.false)
 
 pub returns-then-z-eqminus1 : goal.returns-then-z-eqminus1
 returns-then-z-eqminus1 c =
-    let start = c in rw (minus_one-bits start.args.z start.ranges.z.sfits c.if-z-eqminus1.true)
+    rw (minus_one-bits c.args.z c.ranges.z.sfits c.if-z-eqminus1.true)

@@ -13,37 +13,33 @@ use Rattle.rules.proofs.rest.first_rest_entry.Goals as goal
 
 pub rest_entry-requires : goal.rest_entry-requires
 rest_entry-requires c =
-    let at-hand : let lows = c in let to = lows in let from = to in let a = c.args in Parts a.t.now a.w.now from.heads-all.result.now from.entry_lows-from.result.now to.entry_highs-to.result.now lows.lows-all_lows.result.now c.highs-all_highs.result.now =
-        let lows = c in
-        let to = lows in
-        let from = to in
-        record {
-          apart = record { heads = from.heads-all.ensures; lows = from.entry_lows-from.ensures; highs = to.entry_highs-to.ensures };
-          rows = record { ready = c.requires.ready; lows = lows.lows-all_lows.ensures; highs = c.highs-all_highs.ensures };
-        } in
-    let past_points : let loop = c in (sizes_of loop.args.t.now).points ≤ loop.loop-place.place =
-        let loop = c in omega (arith, loop.requires.t_bound.0, loop.loop-place.invariant.past) in
-    let points = c in
-    let pre = points.requires in
-    record { parts = at-hand; i_bound = omega (arith, points.number_at-points.ensures.value, past_points, c.loop-place-test.true, pre.1.2) }
+    let at-hand :
+    let a = c.args in
+    Parts a.t.now a.w.now c.heads-all.result.now c.entry_lows-from.result.now c.entry_highs-to.result.now
+    c.lows-all_lows.result.now c.highs-all_highs.result.now =
+    record {
+      apart = record { heads = c.heads-all.ensures; lows = c.entry_lows-from.ensures; highs = c.entry_highs-to.ensures };
+      rows = record { ready = c.requires.ready; lows = c.lows-all_lows.ensures; highs = c.highs-all_highs.ensures };
+    } in
+    let past_points : (sizes_of c.args.t.now).points ≤ c.loop-place.place =
+    omega (arith, c.requires.t_bound.0, c.loop-place.invariant.past) in
+    record { parts = at-hand; i_bound = omega (arith, c.number_at-points.ensures.value, past_points, c.loop-place-test.true, c.requires.t_bound.2) }
 
 pub returns-then-not-rest_entry : goal.returns-then-not-rest_entry
 returns-then-not-rest_entry c =
-    let past_points : let loop = c in (sizes_of loop.args.t.now).points ≤ loop.loop-place.place =
-        let loop = c in omega (arith, loop.requires.t_bound.0, loop.loop-place.invariant.past) in
-    let tested : let loop = c in let a = loop.args in c.rest_entry.result ≡ rule16 a.t.now a.w.now loop.loop-place.place =
-        let points = c in rest-at-entry _ _ _ past_points (rw points.number_at-points.ensures.value at c.rest_entry.ensures) in
-    let turn = c in
-    sought turn.loop-place.invariant turn.loop-place-test.true (fails tested c.if-not-rest_entry.true)
+    let past_points : (sizes_of c.args.t.now).points ≤ c.loop-place.place =
+    omega (arith, c.requires.t_bound.0, c.loop-place.invariant.past) in
+    let tested : let a = c.args in c.rest_entry.result ≡ rule16 a.t.now a.w.now c.loop-place.place =
+    rest-at-entry _ _ _ past_points (rw c.number_at-points.ensures.value at c.rest_entry.ensures) in
+    sought c.loop-place.invariant c.loop-place-test.true (fails tested c.if-not-rest_entry.true)
 
 pub loop-place-preserved : goal.loop-place-preserved
 loop-place-preserved c =
-    let past_points : let loop = c in (sizes_of loop.args.t.now).points ≤ loop.loop-place.place =
-        let loop = c in omega (arith, loop.requires.t_bound.0, loop.loop-place.invariant.past) in
-    let tested : let loop = c in let a = loop.args in c.rest_entry.result ≡ rule16 a.t.now a.w.now loop.loop-place.place =
-        let points = c in rest-at-entry _ _ _ past_points (rw points.number_at-points.ensures.value at c.rest_entry.ensures) in
-    let turn = c in
-    seeks turn.loop-place.invariant turn.loop-place-test.true (holds tested c.if-not-rest_entry.false)
+    let past_points : (sizes_of c.args.t.now).points ≤ c.loop-place.place =
+    omega (arith, c.requires.t_bound.0, c.loop-place.invariant.past) in
+    let tested : let a = c.args in c.rest_entry.result ≡ rule16 a.t.now a.w.now c.loop-place.place =
+    rest-at-entry _ _ _ past_points (rw c.number_at-points.ensures.value at c.rest_entry.ensures) in
+    seeks c.loop-place.invariant c.loop-place-test.true (holds tested c.if-not-rest_entry.false)
 
 pub loop-place-init : goal.loop-place-init
 loop-place-init c =
@@ -51,8 +47,8 @@ loop-place-init c =
 
 pub overflow_sub-place : goal.overflow_sub-place
 overflow_sub-place c =
-    let past_points : let loop = c in (sizes_of loop.args.t.now).points ≤ loop.loop-place.place =
-        let loop = c in omega (arith, loop.requires.t_bound.0, loop.loop-place.invariant.past) in
+    let past_points : (sizes_of c.args.t.now).points ≤ c.loop-place.place =
+    omega (arith, c.requires.t_bound.0, c.loop-place.invariant.past) in
     omega (arith, c.number_at-points.ensures.value, past_points)
 
 pub returns : goal.returns

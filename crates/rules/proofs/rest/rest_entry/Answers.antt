@@ -20,7 +20,7 @@ use Rattle.rules.proofs.rest.rest_entry.Goals as goal
 pub natural-v-requires : goal.natural-v-requires
 natural-v-requires c =
     let there : let a = c.args in let row = row_at a.t.now a.w.now 0 in Readable a.heads.now a.from.now a.to.now row.lows row.highs a.i =
-        readable c.requires.parts.rows.ready 0 _ c.requires.parts.apart refl refl (omega (arith, c.requires.parts.rows.ready.passes.points.low)) c.requires.i_bound in
+    readable c.requires.parts.rows.ready 0 _ c.requires.parts.apart refl refl (omega (arith, c.requires.parts.rows.ready.passes.points.low)) c.requires.i_bound in
     subst (λ (z : ℤ). number_of z < 4294967295) (sym (read_back c.word_at.type_inv ∙ c.word_at.ensures)) there.variable
 
 -- the number of the variable's interval in the rest row, which is one of the rows
@@ -29,73 +29,65 @@ same_index m e f g = rw (e, f, g)
 
 pub rests_at-requires : goal.rests_at-requires
 rests_at-requires c =
-    let is-mutex : let mutexes = c in c.loop-m.m < (sizes_of mutexes.args.t.now).mutexes =
-        rw c.number_at-mutexes.ensures.value at c.loop-m-test.true in
+    let is-mutex : c.loop-m.m < (sizes_of c.args.t.now).mutexes =
+    rw c.number_at-mutexes.ensures.value at c.loop-m-test.true in
     let variable-is : let a = c.args in c.natural-v.result ≡ head_of a.t.now a.w.now a.i 2 =
-        let start = c in c.natural-v.ensures ∙ ap number_of (read_back c.word_at.type_inv ∙ c.word_at.ensures) ∙ head_at start.requires.parts.apart start.args.i 2 in
-    let index_is : let points = c in let variables = points in let v = variables in let a = variables.args in let size = sizes_of a.t.now in (points.number_at-points.result + c.loop-m.m) * variables.number_at-variables.result + v.natural-v.result ≡ (size.points + c.loop-m.m) * size.variables + head_of a.t.now a.w.now a.i 2 =
-        let points = c in let variables = points in same_index _ points.number_at-points.ensures.value variables.number_at-variables.ensures.value variable-is in
-    let start = c in
-    let variable = head-variable start.requires.parts.rows.ready _ start.requires.i_bound in record { m_bound = omega (arith, is-mutex, start.requires.parts.rows.ready.bounded.mutexes); k_in_bounds = (
-        low-there start.requires.parts.rows.ready _ _ variable index_is (omega (arith, is-mutex)) start.requires.parts.rows.lows,
-        high-there start.requires.parts.rows.ready _ _ variable index_is (omega (arith, is-mutex)) start.requires.parts.rows.highs,
-      ) }
+    c.natural-v.ensures ∙ ap number_of (read_back c.word_at.type_inv ∙ c.word_at.ensures) ∙ head_at c.requires.parts.apart c.args.i 2 in
+    let index_is :
+    let a = c.args in
+    let size = sizes_of a.t.now in
+    (c.number_at-points.result + c.loop-m.m) * c.number_at-variables.result + c.natural-v.result
+    ≡ (size.points + c.loop-m.m) * size.variables + head_of a.t.now a.w.now a.i 2 =
+    same_index _ c.number_at-points.ensures.value c.number_at-variables.ensures.value variable-is in
+    let variable = head-variable c.requires.parts.rows.ready _ c.requires.i_bound in record {
+      m_bound = omega (arith, is-mutex, c.requires.parts.rows.ready.bounded.mutexes);
+      k_in_bounds = (
+        low-there c.requires.parts.rows.ready _ _ variable index_is (omega (arith, is-mutex)) c.requires.parts.rows.lows,
+        high-there c.requires.parts.rows.ready _ _ variable index_is (omega (arith, is-mutex)) c.requires.parts.rows.highs,
+      );
+    }
 
 pub returns-then-not-rests_at : goal.returns-then-not-rests_at
 unfolding rest_entry
 returns-then-not-rests_at c =
     let set_is : let a = c.args in c.head_in-s.result ≡ head_of a.t.now a.w.now a.i 1 =
-        c.head_in-s.ensures.value ∙ head_at c.requires.parts.apart c.args.i 1 in
+    c.head_in-s.ensures.value ∙ head_at c.requires.parts.apart c.args.i 1 in
     let variable-is : let a = c.args in c.natural-v.result ≡ head_of a.t.now a.w.now a.i 2 =
-        let start = c in c.natural-v.ensures ∙ ap number_of (read_back c.word_at.type_inv ∙ c.word_at.ensures) ∙ head_at start.requires.parts.apart start.args.i 2 in
-    let is-mutex : let mutexes = c in c.loop-m.m < (sizes_of mutexes.args.t.now).mutexes =
-        rw c.number_at-mutexes.ensures.value at c.loop-m-test.true in
-    let tested : let loop = c in let a = loop.args in c.rests_at.result ≡ entry_rests a.t.now a.w.now a.i loop.loop-m.m =
-        let points = c in
-        let variables = points in
-        let to = variables in
-        let from = to in
-        let v = from in
-        let start = to in
-        rw (
-          set_is,
-          read_back to.word_at-b.type_inv ∙ to.word_at-b.ensures,
-          read_back from.word_at-a.type_inv ∙ from.word_at-a.ensures,
-          points.number_at-points.ensures.value,
-          variables.number_at-variables.ensures.value,
-          variable-is,
-        ) at c.rests_at.ensures
-        ∙ entry-tested start.requires.parts _ _ start.requires.i_bound is-mutex in
-    let turn = c in
-    rw (sym turn.number_at-mutexes.ensures.value)
-    (sym (fails-at _ _ _ turn.loop-m-test.true (fails tested c.if-not-rests_at.true)))
+    c.natural-v.ensures ∙ ap number_of (read_back c.word_at.type_inv ∙ c.word_at.ensures) ∙ head_at c.requires.parts.apart c.args.i 2 in
+    let is-mutex : c.loop-m.m < (sizes_of c.args.t.now).mutexes =
+    rw c.number_at-mutexes.ensures.value at c.loop-m-test.true in
+    let tested : let a = c.args in c.rests_at.result ≡ entry_rests a.t.now a.w.now a.i c.loop-m.m =
+    rw (
+      set_is,
+      read_back c.word_at-b.type_inv ∙ c.word_at-b.ensures,
+      read_back c.word_at-a.type_inv ∙ c.word_at-a.ensures,
+      c.number_at-points.ensures.value,
+      c.number_at-variables.ensures.value,
+      variable-is,
+    ) at c.rests_at.ensures
+    ∙ entry-tested c.requires.parts _ _ c.requires.i_bound is-mutex in
+    rw (sym c.number_at-mutexes.ensures.value)
+    (sym (fails-at _ _ _ c.loop-m-test.true (fails tested c.if-not-rests_at.true)))
 
 pub loop-m-preserved : goal.loop-m-preserved
 loop-m-preserved c =
     let set_is : let a = c.args in c.head_in-s.result ≡ head_of a.t.now a.w.now a.i 1 =
-        c.head_in-s.ensures.value ∙ head_at c.requires.parts.apart c.args.i 1 in
+    c.head_in-s.ensures.value ∙ head_at c.requires.parts.apart c.args.i 1 in
     let variable-is : let a = c.args in c.natural-v.result ≡ head_of a.t.now a.w.now a.i 2 =
-        let start = c in c.natural-v.ensures ∙ ap number_of (read_back c.word_at.type_inv ∙ c.word_at.ensures) ∙ head_at start.requires.parts.apart start.args.i 2 in
-    let is-mutex : let mutexes = c in c.loop-m.m < (sizes_of mutexes.args.t.now).mutexes =
-        rw c.number_at-mutexes.ensures.value at c.loop-m-test.true in
-    let tested : let loop = c in let a = loop.args in c.rests_at.result ≡ entry_rests a.t.now a.w.now a.i loop.loop-m.m =
-        let points = c in
-        let variables = points in
-        let to = variables in
-        let from = to in
-        let v = from in
-        let start = to in
-        rw (
-          set_is,
-          read_back to.word_at-b.type_inv ∙ to.word_at-b.ensures,
-          read_back from.word_at-a.type_inv ∙ from.word_at-a.ensures,
-          points.number_at-points.ensures.value,
-          variables.number_at-variables.ensures.value,
-          variable-is,
-        ) at c.rests_at.ensures
-        ∙ entry-tested start.requires.parts _ _ start.requires.i_bound is-mutex in
-    let turn = c in
-    checks turn.loop-m.invariant turn.loop-m-test.true (holds tested c.if-not-rests_at.false)
+    c.natural-v.ensures ∙ ap number_of (read_back c.word_at.type_inv ∙ c.word_at.ensures) ∙ head_at c.requires.parts.apart c.args.i 2 in
+    let is-mutex : c.loop-m.m < (sizes_of c.args.t.now).mutexes =
+    rw c.number_at-mutexes.ensures.value at c.loop-m-test.true in
+    let tested : let a = c.args in c.rests_at.result ≡ entry_rests a.t.now a.w.now a.i c.loop-m.m =
+    rw (
+      set_is,
+      read_back c.word_at-b.type_inv ∙ c.word_at-b.ensures,
+      read_back c.word_at-a.type_inv ∙ c.word_at-a.ensures,
+      c.number_at-points.ensures.value,
+      c.number_at-variables.ensures.value,
+      variable-is,
+    ) at c.rests_at.ensures
+    ∙ entry-tested c.requires.parts _ _ c.requires.i_bound is-mutex in
+    checks c.loop-m.invariant c.loop-m-test.true (holds tested c.if-not-rests_at.false)
 
 pub returns : goal.returns
 unfolding rest_entry
@@ -104,19 +96,19 @@ returns c = rw (sym c.number_at-mutexes.ensures.value) (sym (checked c.loop-m.in
 pub word_at-requires : goal.word_at-requires
 word_at-requires c =
     let there : let a = c.args in let row = row_at a.t.now a.w.now 0 in Readable a.heads.now a.from.now a.to.now row.lows row.highs a.i =
-        readable c.requires.parts.rows.ready 0 _ c.requires.parts.apart refl refl (omega (arith, c.requires.parts.rows.ready.passes.points.low)) c.requires.i_bound in
+    readable c.requires.parts.rows.ready 0 _ c.requires.parts.apart refl refl (omega (arith, c.requires.parts.rows.ready.passes.points.low)) c.requires.i_bound in
     there.head
 
 pub word_at-a-requires : goal.word_at-a-requires
 word_at-a-requires c =
     let there : let a = c.args in let row = row_at a.t.now a.w.now 0 in Readable a.heads.now a.from.now a.to.now row.lows row.highs a.i =
-        readable c.requires.parts.rows.ready 0 _ c.requires.parts.apart refl refl (omega (arith, c.requires.parts.rows.ready.passes.points.low)) c.requires.i_bound in
+    readable c.requires.parts.rows.ready 0 _ c.requires.parts.apart refl refl (omega (arith, c.requires.parts.rows.ready.passes.points.low)) c.requires.i_bound in
     there.low
 
 pub word_at-b-requires : goal.word_at-b-requires
 word_at-b-requires c =
     let there : let a = c.args in let row = row_at a.t.now a.w.now 0 in Readable a.heads.now a.from.now a.to.now row.lows row.highs a.i =
-        readable c.requires.parts.rows.ready 0 _ c.requires.parts.apart refl refl (omega (arith, c.requires.parts.rows.ready.passes.points.low)) c.requires.i_bound in
+    readable c.requires.parts.rows.ready 0 _ c.requires.parts.apart refl refl (omega (arith, c.requires.parts.rows.ready.passes.points.low)) c.requires.i_bound in
     there.high
 
 pub loop-m-init : goal.loop-m-init
@@ -125,24 +117,32 @@ loop-m-init c =
 
 pub overflow_mul-k : goal.overflow_mul-k
 overflow_mul-k c =
-    let is-mutex : let mutexes = c in c.loop-m.m < (sizes_of mutexes.args.t.now).mutexes =
-        rw c.number_at-mutexes.ensures.value at c.loop-m-test.true in
+    let is-mutex : c.loop-m.m < (sizes_of c.args.t.now).mutexes =
+    rw c.number_at-mutexes.ensures.value at c.loop-m-test.true in
     let variable-is : let a = c.args in c.natural-v.result ≡ head_of a.t.now a.w.now a.i 2 =
-        let start = c in c.natural-v.ensures ∙ ap number_of (read_back c.word_at.type_inv ∙ c.word_at.ensures) ∙ head_at start.requires.parts.apart start.args.i 2 in
-    let index_is : let points = c in let variables = points in let v = variables in let a = variables.args in let size = sizes_of a.t.now in (points.number_at-points.result + c.loop-m.m) * variables.number_at-variables.result + v.natural-v.result ≡ (size.points + c.loop-m.m) * size.variables + head_of a.t.now a.w.now a.i 2 =
-        let points = c in let variables = points in same_index _ points.number_at-points.ensures.value variables.number_at-variables.ensures.value variable-is in
-    let index-fits : let points = c in let variables = points in (points.number_at-points.result + c.loop-m.m) * variables.number_at-variables.result + variables.natural-v.result < 4736 =
-        let start = c in at_bound start.requires.parts.rows.ready _ _ (head-variable start.requires.parts.rows.ready _ start.requires.i_bound) index_is (omega (arith, is-mutex)) in
+    c.natural-v.ensures ∙ ap number_of (read_back c.word_at.type_inv ∙ c.word_at.ensures) ∙ head_at c.requires.parts.apart c.args.i 2 in
+    let index_is :
+    let a = c.args in
+    let size = sizes_of a.t.now in
+    (c.number_at-points.result + c.loop-m.m) * c.number_at-variables.result + c.natural-v.result
+    ≡ (size.points + c.loop-m.m) * size.variables + head_of a.t.now a.w.now a.i 2 =
+    same_index _ c.number_at-points.ensures.value c.number_at-variables.ensures.value variable-is in
+    let index-fits : (c.number_at-points.result + c.loop-m.m) * c.number_at-variables.result + c.natural-v.result < 4736 =
+    at_bound c.requires.parts.rows.ready _ _ (head-variable c.requires.parts.rows.ready _ c.requires.i_bound) index_is (omega (arith, is-mutex)) in
     omega (arith, index-fits)
 
 pub overflow_add-k-in-loop-m : goal.overflow_add-k-in-loop-m
 overflow_add-k-in-loop-m c =
-    let is-mutex : let mutexes = c in c.loop-m.m < (sizes_of mutexes.args.t.now).mutexes =
-        rw c.number_at-mutexes.ensures.value at c.loop-m-test.true in
+    let is-mutex : c.loop-m.m < (sizes_of c.args.t.now).mutexes =
+    rw c.number_at-mutexes.ensures.value at c.loop-m-test.true in
     let variable-is : let a = c.args in c.natural-v.result ≡ head_of a.t.now a.w.now a.i 2 =
-        let start = c in c.natural-v.ensures ∙ ap number_of (read_back c.word_at.type_inv ∙ c.word_at.ensures) ∙ head_at start.requires.parts.apart start.args.i 2 in
-    let index_is : let points = c in let variables = points in let v = variables in let a = variables.args in let size = sizes_of a.t.now in (points.number_at-points.result + c.loop-m.m) * variables.number_at-variables.result + v.natural-v.result ≡ (size.points + c.loop-m.m) * size.variables + head_of a.t.now a.w.now a.i 2 =
-        let points = c in let variables = points in same_index _ points.number_at-points.ensures.value variables.number_at-variables.ensures.value variable-is in
-    let index-fits : let points = c in let variables = points in (points.number_at-points.result + c.loop-m.m) * variables.number_at-variables.result + variables.natural-v.result < 4736 =
-        let start = c in at_bound start.requires.parts.rows.ready _ _ (head-variable start.requires.parts.rows.ready _ start.requires.i_bound) index_is (omega (arith, is-mutex)) in
+    c.natural-v.ensures ∙ ap number_of (read_back c.word_at.type_inv ∙ c.word_at.ensures) ∙ head_at c.requires.parts.apart c.args.i 2 in
+    let index_is :
+    let a = c.args in
+    let size = sizes_of a.t.now in
+    (c.number_at-points.result + c.loop-m.m) * c.number_at-variables.result + c.natural-v.result
+    ≡ (size.points + c.loop-m.m) * size.variables + head_of a.t.now a.w.now a.i 2 =
+    same_index _ c.number_at-points.ensures.value c.number_at-variables.ensures.value variable-is in
+    let index-fits : (c.number_at-points.result + c.loop-m.m) * c.number_at-variables.result + c.natural-v.result < 4736 =
+    at_bound c.requires.parts.rows.ready _ _ (head-variable c.requires.parts.rows.ready _ c.requires.i_bound) index_is (omega (arith, is-mutex)) in
     omega (arith, index-fits)

@@ -6,33 +6,25 @@ use Rattle.table.specs.Layout.{points_of}
 use Rattle.table.specs.Decode.{point_of}
 use Rattle.table.specs.declared.Point.{Point}
 use Rattle.table.specs.declared.Point.TheVariants.{End, Assign, Test, Lock}
-use Rattle.words.proofs.Bools.{fails}
+use Rattle.words.proofs.Bools.{fails, holds}
 use Rattle.rules.specs.Proposal.{held_of, row_at}
 use Rattle.rules.specs.Outcomes.{outcomes_by}
 use Rattle.rules.specs.Rules.{rests, rest_point}
 use Rattle.rules.proofs.RestLaws.{unlock-names, not-reached, reached}
 use Rattle.rules.proofs.rest.rest_point.Goals as goal
 
-at : (c : tie.After-point-at) {b : Bool} (x : Point) → let start = c.before.before.before.before.args in
-    c.point_at.result ≡ x
-    → b ≡ rests start.t.now start.w.now x (outcomes_by start.t.now start.w.now x (held_of start.w.now start.p) (row_at start.t.now start.w.now start.p))
-    → b ≡ rest_point start.t.now start.w.now start.p
-at c x is q =
-    let reach = c.before.before in
-    let is-reached = holds_not (rw reach.before.held.ensures.0 at reach.is-reached.ensures) c.before.if1.false in
-    reached _ _ _ x is-reached (sym (read c) ∙ is) q
-
 pub unlock_rests-requires : goal.unlock_rests-requires
 unlock_rests-requires c =
     let read : let start = c.args in c.point_at-x.result ≡ point_of (points_of start.t.now) start.p =
-        rw c.requires.points_value at c.point_at-x.ensures in
-    let point = c in
-    record { rows = point.requires.rows; m_bound = (unlock-names _ _ point.requires.rows.ready.passes point.requires.p_bound (sym read ∙ c.in-Unlock.is), point.requires.p_bound) }
+    rw c.requires.points_value at c.point_at-x.ensures in
+    record {
+      rows = c.requires.rows;
+      m_bound = (unlock-names _ _ c.requires.rows.ready.passes c.requires.p_bound (sym read ∙ c.in-Unlock.is), c.requires.p_bound);
+    }
 
 pub returns-then-not-is_reached : goal.returns-then-not-is_reached
 returns-then-not-is_reached c =
-    let reach = c in
-    not-reached _ _ _ (fails (rw reach.held.ensures.value at reach.is_reached.ensures) c.if-not-is_reached.true)
+    not-reached _ _ _ (fails (rw c.held.ensures.value at c.is_reached.ensures) c.if-not-is_reached.true)
 
 pub held-requires : goal.held-requires
 unfolding rests
@@ -77,24 +69,39 @@ enum_known-x c =
 pub returns-in-End : goal.returns-in-End
 unfolding rests
 returns-in-End c =
-    at c End c.in-End.is refl
+    let is-reached = holds (rw c.held.ensures.value at c.is_reached.ensures) c.if-not-is_reached.false in
+    let read : let a = c.args in c.point_at-x.result ≡ point_of (points_of a.t.now) a.p =
+    rw c.requires.points_value at c.point_at-x.ensures in
+    reached _ _ _ End is-reached (sym read ∙ c.in-End.is) refl
 
 pub returns-in-Assign : goal.returns-in-Assign
 unfolding rests
 returns-in-Assign c =
-    at c (Assign _ _ _) c.in-Assign.is refl
+    let is-reached = holds (rw c.held.ensures.value at c.is_reached.ensures) c.if-not-is_reached.false in
+    let read : let a = c.args in c.point_at-x.result ≡ point_of (points_of a.t.now) a.p =
+    rw c.requires.points_value at c.point_at-x.ensures in
+    reached _ _ _ (Assign _ _ _) is-reached (sym read ∙ c.in-Assign.is) refl
 
 pub returns-in-Test : goal.returns-in-Test
 unfolding rests
 returns-in-Test c =
-    at c (Test _ _ _) c.in-Test.is refl
+    let is-reached = holds (rw c.held.ensures.value at c.is_reached.ensures) c.if-not-is_reached.false in
+    let read : let a = c.args in c.point_at-x.result ≡ point_of (points_of a.t.now) a.p =
+    rw c.requires.points_value at c.point_at-x.ensures in
+    reached _ _ _ (Test _ _ _) is-reached (sym read ∙ c.in-Test.is) refl
 
 pub returns-in-Lock : goal.returns-in-Lock
 unfolding rests
 returns-in-Lock c =
-    at c (Lock _ _) c.in-Lock.is refl
+    let is-reached = holds (rw c.held.ensures.value at c.is_reached.ensures) c.if-not-is_reached.false in
+    let read : let a = c.args in c.point_at-x.result ≡ point_of (points_of a.t.now) a.p =
+    rw c.requires.points_value at c.point_at-x.ensures in
+    reached _ _ _ (Lock _ _) is-reached (sym read ∙ c.in-Lock.is) refl
 
 pub returns-in-Unlock : goal.returns-in-Unlock
 unfolding rests
 returns-in-Unlock c =
-    at c _ c.in-Unlock.is c.unlock_rests.ensures
+    let is-reached = holds (rw c.held.ensures.value at c.is_reached.ensures) c.if-not-is_reached.false in
+    let read : let a = c.args in c.point_at-x.result ≡ point_of (points_of a.t.now) a.p =
+    rw c.requires.points_value at c.point_at-x.ensures in
+    reached _ _ _ _ is-reached (sym read ∙ c.in-Unlock.is) c.unlock_rests.ensures

@@ -6,14 +6,11 @@ use Rattle.rules.proofs.rest.rests_at.Goals as goal
 
 pub returns : goal.returns
 returns c =
-    let high = c in
-    let low = high in
-    let has = low in
-    let fits = has.ranges in
-    rw (fails has.has.ensures low.if-has.false)
+    let fits = c.ranges in
+    rw (fails c.has.ensures c.if-has.false)
     (rw (
-      read_back high.word_at-2.type_inv ∙ high.word_at-2.ensures,
-      read_back low.word_at.type_inv ∙ low.word_at.ensures,
+      read_back c.word_at-2.type_inv ∙ c.word_at-2.ensures,
+      read_back c.word_at.type_inv ∙ c.word_at.ensures,
       read_back fits.a.sfits,
       read_back fits.b.sfits,
     ) at c.is_inside.ensures)

@@ -10,31 +10,19 @@ use Rattle.rules.proofs.rows.meets.Goals as goal
 
 pub returns-then-not-overlap : goal.returns-then-not-overlap
 returns-then-not-overlap c =
-    let tested : let loop = c in let a = loop.before.args in c.overlap.result ≡ Meets (row_of a.a-lows.now a.a-highs.now) (row_of a.b-lows.now a.b-highs.now) loop.loop.v =
-        let b-high = c in
-        let b-low = b-high in
-        let a-high = b-low in
-        let a-low = a-high in
-        let turn = c in
-        meets-is turn.requires.ordered turn.requires.ordered_2 turn.loop-v-test.taken (read_back a-low.word_at-low.type_inv ∙ a-low.word_at-low.ensures)
-        (read_back a-high.word_at-high.type_inv ∙ a-high.word_at-high.ensures) (read_back b-low.word_at.type_inv ∙ b-low.word_at.ensures)
-        (read_back b-high.word_at-in-loop-v.type_inv ∙ b-high.word_at-in-loop-v.ensures) c.overlap.ensures in
-    let turn = c in
-    fails-in turn.loop-v.inv turn.loop-v-test.taken (fails tested c.if-not-overlap.true)
+    let tested : let a = c.args in c.overlap.result ≡ Meets (row_of a.a_lows.now a.a_highs.now) (row_of a.b_lows.now a.b_highs.now) c.loop-v.v =
+    meets-is c.requires.ordered c.requires.ordered_2 c.loop-v-test.true (read_back c.word_at-low.type_inv ∙ c.word_at-low.ensures)
+    (read_back c.word_at-high.type_inv ∙ c.word_at-high.ensures) (read_back c.word_at.type_inv ∙ c.word_at.ensures)
+    (read_back c.word_at-in-loop-v.type_inv ∙ c.word_at-in-loop-v.ensures) c.overlap.ensures in
+    fails-in c.loop-v.invariant c.loop-v-test.true (fails tested c.if-not-overlap.true)
 
 pub loop-v-preserved : goal.loop-v-preserved
 loop-v-preserved c =
-    let tested : let loop = c in let a = loop.before.args in c.overlap.result ≡ Meets (row_of a.a-lows.now a.a-highs.now) (row_of a.b-lows.now a.b-highs.now) loop.loop.v =
-        let b-high = c in
-        let b-low = b-high in
-        let a-high = b-low in
-        let a-low = a-high in
-        let turn = c in
-        meets-is turn.requires.ordered turn.requires.ordered_2 turn.loop-v-test.taken (read_back a-low.word_at-low.type_inv ∙ a-low.word_at-low.ensures)
-        (read_back a-high.word_at-high.type_inv ∙ a-high.word_at-high.ensures) (read_back b-low.word_at.type_inv ∙ b-low.word_at.ensures)
-        (read_back b-high.word_at-in-loop-v.type_inv ∙ b-high.word_at-in-loop-v.ensures) c.overlap.ensures in
-    let turn = c in
-    checks turn.loop-v.inv turn.loop-v-test.taken (holds tested c.if-not-overlap.false)
+    let tested : let a = c.args in c.overlap.result ≡ Meets (row_of a.a_lows.now a.a_highs.now) (row_of a.b_lows.now a.b_highs.now) c.loop-v.v =
+    meets-is c.requires.ordered c.requires.ordered_2 c.loop-v-test.true (read_back c.word_at-low.type_inv ∙ c.word_at-low.ensures)
+    (read_back c.word_at-high.type_inv ∙ c.word_at-high.ensures) (read_back c.word_at.type_inv ∙ c.word_at.ensures)
+    (read_back c.word_at-in-loop-v.type_inv ∙ c.word_at-in-loop-v.ensures) c.overlap.ensures in
+    checks c.loop-v.invariant c.loop-v-test.true (holds tested c.if-not-overlap.false)
 
 pub loop-v-init : goal.loop-v-init
 loop-v-init c =

@@ -14,49 +14,41 @@ use Rattle.rules.proofs.rows.met_within.Goals as goal
 pub returns-then-not-is_inside : goal.returns-then-not-is_inside
 unfolding row_within_of
 returns-then-not-is_inside c =
-    let tested : let loop = c in let a = loop.before.args in c.is_inside.result ≡ Lies (met_of a.a-lows.now a.a-highs.now a.b-lows.now a.b-highs.now) (row_of a.c-lows.now a.c-highs.now) loop.loop.v =
-        let c-high = c in
-        let c-low = c-high in
-        let least = c-low in
-        let b-high = least in
-        let a-high = b-high in
-        let most = a-high in
-        let b-low = most in
-        let a-low = b-low in
-        let turn = c in
-        let args = turn.args in
-        met-is _ _ _ _ (row_of args.c-lows.now args.c-highs.now) turn.requires.variables_value turn.loop-v-test.taken
-        (read_back most.max32-low.type_inv
-        ∙ rw (read_back a-low.word_at.type_inv ∙ a-low.word_at.ensures, read_back b-low.word_at-in-loop-v.type_inv ∙ b-low.word_at-in-loop-v.ensures) at most.max32-low.ensures)
-        (read_back least.min32-high.type_inv
-        ∙ rw (read_back a-high.word_at-in-loop-v-2.type_inv ∙ a-high.word_at-in-loop-v-2.ensures, read_back b-high.word_at-in-loop-v-3.type_inv ∙ b-high.word_at-in-loop-v-3.ensures) at least.min32-high.ensures)
-        (read_back c-low.word_at-in-loop-v-4.type_inv ∙ c-low.word_at-in-loop-v-4.ensures) (read_back c-high.word_at-in-loop-v-5.type_inv ∙ c-high.word_at-in-loop-v-5.ensures)
-        c.is_inside.ensures in
-    let turn = c in
-    fails-in turn.loop-v.inv turn.loop-v-test.taken (fails tested c.if-not-is_inside.true)
+    let tested :
+    let a = c.args in
+    c.is_inside.result
+    ≡ Lies (met_of a.a_lows.now a.a_highs.now a.b_lows.now a.b_highs.now) (row_of a.c_lows.now a.c_highs.now) c.loop-v.v =
+    let args = c.args in
+    met-is _ _ _ _ (row_of args.c_lows.now args.c_highs.now) c.requires.variables_value c.loop-v-test.true
+    (read_back c.max32-low.type_inv
+    ∙ rw (read_back c.word_at.type_inv ∙ c.word_at.ensures, read_back c.word_at-in-loop-v.type_inv ∙ c.word_at-in-loop-v.ensures) at c.max32-low.ensures)
+    (read_back c.min32-high.type_inv
+    ∙ rw (
+      read_back c.word_at-in-loop-v-2.type_inv ∙ c.word_at-in-loop-v-2.ensures,
+      read_back c.word_at-in-loop-v-3.type_inv ∙ c.word_at-in-loop-v-3.ensures,
+    ) at c.min32-high.ensures)
+    (read_back c.word_at-in-loop-v-4.type_inv ∙ c.word_at-in-loop-v-4.ensures) (read_back c.word_at-in-loop-v-5.type_inv ∙ c.word_at-in-loop-v-5.ensures)
+    c.is_inside.ensures in
+    fails-in c.loop-v.invariant c.loop-v-test.true (fails tested c.if-not-is_inside.true)
 
 pub loop-v-preserved : goal.loop-v-preserved
 loop-v-preserved c =
-    let tested : let loop = c in let a = loop.before.args in c.is_inside.result ≡ Lies (met_of a.a-lows.now a.a-highs.now a.b-lows.now a.b-highs.now) (row_of a.c-lows.now a.c-highs.now) loop.loop.v =
-        let c-high = c in
-        let c-low = c-high in
-        let least = c-low in
-        let b-high = least in
-        let a-high = b-high in
-        let most = a-high in
-        let b-low = most in
-        let a-low = b-low in
-        let turn = c in
-        let args = turn.args in
-        met-is _ _ _ _ (row_of args.c-lows.now args.c-highs.now) turn.requires.variables_value turn.loop-v-test.taken
-        (read_back most.max32-low.type_inv
-        ∙ rw (read_back a-low.word_at.type_inv ∙ a-low.word_at.ensures, read_back b-low.word_at-in-loop-v.type_inv ∙ b-low.word_at-in-loop-v.ensures) at most.max32-low.ensures)
-        (read_back least.min32-high.type_inv
-        ∙ rw (read_back a-high.word_at-in-loop-v-2.type_inv ∙ a-high.word_at-in-loop-v-2.ensures, read_back b-high.word_at-in-loop-v-3.type_inv ∙ b-high.word_at-in-loop-v-3.ensures) at least.min32-high.ensures)
-        (read_back c-low.word_at-in-loop-v-4.type_inv ∙ c-low.word_at-in-loop-v-4.ensures) (read_back c-high.word_at-in-loop-v-5.type_inv ∙ c-high.word_at-in-loop-v-5.ensures)
-        c.is_inside.ensures in
-    let turn = c in
-    checks turn.loop-v.inv turn.loop-v-test.taken (holds tested c.if-not-is_inside.false)
+    let tested :
+    let a = c.args in
+    c.is_inside.result
+    ≡ Lies (met_of a.a_lows.now a.a_highs.now a.b_lows.now a.b_highs.now) (row_of a.c_lows.now a.c_highs.now) c.loop-v.v =
+    let args = c.args in
+    met-is _ _ _ _ (row_of args.c_lows.now args.c_highs.now) c.requires.variables_value c.loop-v-test.true
+    (read_back c.max32-low.type_inv
+    ∙ rw (read_back c.word_at.type_inv ∙ c.word_at.ensures, read_back c.word_at-in-loop-v.type_inv ∙ c.word_at-in-loop-v.ensures) at c.max32-low.ensures)
+    (read_back c.min32-high.type_inv
+    ∙ rw (
+      read_back c.word_at-in-loop-v-2.type_inv ∙ c.word_at-in-loop-v-2.ensures,
+      read_back c.word_at-in-loop-v-3.type_inv ∙ c.word_at-in-loop-v-3.ensures,
+    ) at c.min32-high.ensures)
+    (read_back c.word_at-in-loop-v-4.type_inv ∙ c.word_at-in-loop-v-4.ensures) (read_back c.word_at-in-loop-v-5.type_inv ∙ c.word_at-in-loop-v-5.ensures)
+    c.is_inside.ensures in
+    checks c.loop-v.invariant c.loop-v-test.true (holds tested c.if-not-is_inside.false)
 
 pub loop-v-init : goal.loop-v-init
 unfolding row_within_of

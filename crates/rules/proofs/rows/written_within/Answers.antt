@@ -19,56 +19,42 @@ pub returns-then-not-is_inside : goal.returns-then-not-is_inside
 unfolding row_within_of
 returns-then-not-is_inside c =
     let written : Row =
-        let a = c.args in
-        written_row a.a-lows.now a.a-highs.now a.at (to_z w32 (of_z w32 a.low)) (to_z w32 (of_z w32 a.high)) a.last
-        (to_z w32 (of_z w32 a.last-low)) (to_z w32 (of_z w32 a.last-high)) in
+    let a = c.args in
+    written_row a.a_lows.now a.a_highs.now a.at (to_z w32 (of_z w32 a.low)) (to_z w32 (of_z w32 a.high)) a.last
+    (to_z w32 (of_z w32 a.last_low)) (to_z w32 (of_z w32 a.last_high)) in
     let in_order : Ordered written.lows written.highs c.args.variables =
-        let fits = c.ranges in
-        rw (to_z-of_z fits.low, to_z-of_z fits.high, to_z-of_z fits.last-low, to_z-of_z fits.last-high)
-        (written-ordered _ _ _ (written-ordered _ _ _ c.requires.ordered c.requires.high_value.0) c.requires.high_value.1) in
-    let tested : let loop = c in let a = loop.before.args in c.is_inside.result ≡ Lies (written loop.before) (row_of a.b-lows.now a.b-highs.now) loop.loop.v =
-        let b-high = c in
-        let b-low = b-high in
-        let high = b-low in
-        let low = high in
-        let turn = c in
-        let start = turn in
-        lies-is in_order start.requires.ordered_2 turn.loop-v-test.taken (read_back low.written_word-a.type_inv ∙ low.written_word-a.ensures)
-        (read_back high.written_word-b.type_inv ∙ high.written_word-b.ensures) (read_back b-low.word_at.type_inv ∙ b-low.word_at.ensures)
-        (read_back b-high.word_at-in-loop-v.type_inv ∙ b-high.word_at-in-loop-v.ensures) c.is_inside.ensures in
-    let turn = c in
-    let fits = turn.fits in
-    let fails = fails-in turn.loop-v.inv turn.loop-v-test.taken (fails tested c.if-not-is_inside.true) in
-    rw (to_z-of_z fits.low, to_z-of_z fits.high, to_z-of_z fits.last-low, to_z-of_z fits.last-high) at fails
+    let fits = c.ranges in
+    rw (to_z-of_z fits.low, to_z-of_z fits.high, to_z-of_z fits.last_low, to_z-of_z fits.last_high)
+    (written-ordered _ _ _ (written-ordered _ _ _ c.requires.ordered c.requires.high_value.0) c.requires.high_value.1) in
+    let tested : let a = c.args in c.is_inside.result ≡ Lies written (row_of a.b_lows.now a.b_highs.now) c.loop-v.v =
+    lies-is in_order c.requires.ordered_2 c.loop-v-test.true (read_back c.written_word-a.type_inv ∙ c.written_word-a.ensures)
+    (read_back c.written_word-b.type_inv ∙ c.written_word-b.ensures) (read_back c.word_at.type_inv ∙ c.word_at.ensures)
+    (read_back c.word_at-in-loop-v.type_inv ∙ c.word_at-in-loop-v.ensures) c.is_inside.ensures in
+    let fits = c.ranges in
+    let fails = fails-in c.loop-v.invariant c.loop-v-test.true (fails tested c.if-not-is_inside.true) in
+    rw (to_z-of_z fits.low, to_z-of_z fits.high, to_z-of_z fits.last_low, to_z-of_z fits.last_high) at fails
 
 pub loop-v-preserved : goal.loop-v-preserved
 loop-v-preserved c =
     let written : Row =
-        let a = c.args in
-        written_row a.a-lows.now a.a-highs.now a.at (to_z w32 (of_z w32 a.low)) (to_z w32 (of_z w32 a.high)) a.last
-        (to_z w32 (of_z w32 a.last-low)) (to_z w32 (of_z w32 a.last-high)) in
+    let a = c.args in
+    written_row a.a_lows.now a.a_highs.now a.at (to_z w32 (of_z w32 a.low)) (to_z w32 (of_z w32 a.high)) a.last
+    (to_z w32 (of_z w32 a.last_low)) (to_z w32 (of_z w32 a.last_high)) in
     let in_order : Ordered written.lows written.highs c.args.variables =
-        let fits = c.ranges in
-        rw (to_z-of_z fits.low, to_z-of_z fits.high, to_z-of_z fits.last-low, to_z-of_z fits.last-high)
-        (written-ordered _ _ _ (written-ordered _ _ _ c.requires.ordered c.requires.high_value.0) c.requires.high_value.1) in
-    let tested : let loop = c in let a = loop.before.args in c.is_inside.result ≡ Lies (written loop.before) (row_of a.b-lows.now a.b-highs.now) loop.loop.v =
-        let b-high = c in
-        let b-low = b-high in
-        let high = b-low in
-        let low = high in
-        let turn = c in
-        let start = turn in
-        lies-is in_order start.requires.ordered_2 turn.loop-v-test.taken (read_back low.written_word-a.type_inv ∙ low.written_word-a.ensures)
-        (read_back high.written_word-b.type_inv ∙ high.written_word-b.ensures) (read_back b-low.word_at.type_inv ∙ b-low.word_at.ensures)
-        (read_back b-high.word_at-in-loop-v.type_inv ∙ b-high.word_at-in-loop-v.ensures) c.is_inside.ensures in
-    let turn = c in
-    checks turn.loop-v.inv turn.loop-v-test.taken (holds tested c.if-not-is_inside.false)
+    let fits = c.ranges in
+    rw (to_z-of_z fits.low, to_z-of_z fits.high, to_z-of_z fits.last_low, to_z-of_z fits.last_high)
+    (written-ordered _ _ _ (written-ordered _ _ _ c.requires.ordered c.requires.high_value.0) c.requires.high_value.1) in
+    let tested : let a = c.args in c.is_inside.result ≡ Lies written (row_of a.b_lows.now a.b_highs.now) c.loop-v.v =
+    lies-is in_order c.requires.ordered_2 c.loop-v-test.true (read_back c.written_word-a.type_inv ∙ c.written_word-a.ensures)
+    (read_back c.written_word-b.type_inv ∙ c.written_word-b.ensures) (read_back c.word_at.type_inv ∙ c.word_at.ensures)
+    (read_back c.word_at-in-loop-v.type_inv ∙ c.word_at-in-loop-v.ensures) c.is_inside.ensures in
+    checks c.loop-v.invariant c.loop-v-test.true (holds tested c.if-not-is_inside.false)
 
 pub returns : goal.returns
 unfolding row_within_of
 returns c =
     let fits = c.ranges in
-    rw (to_z-of_z fits.low, to_z-of_z fits.high, to_z-of_z fits.last-low, to_z-of_z fits.last-high) at (sym (checked c.loop-v.invariant c.loop-v-test.false))
+    rw (to_z-of_z fits.low, to_z-of_z fits.high, to_z-of_z fits.last_low, to_z-of_z fits.last_high) at (sym (checked c.loop-v.invariant c.loop-v-test.false))
 
 pub loop-v-init : goal.loop-v-init
 unfolding row_within_of

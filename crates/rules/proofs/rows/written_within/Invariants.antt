@@ -1,8 +1,6 @@
 -- `rules::rows::written_within` meets its contract: the loop is left at the first interval that isn't within the other row's, or past the last.
 -- The ends to be written are handed on by their bits, and read back after the loop. Assumes nothing.
 use Prim.Native.Nat.{◌-◌}
-use mir.Syntax.{w32}
-use mir.Val.{to_z}
 use Rattle.words.proofs.FirstLaws.{Checked}
 use Rattle.analysis.specs.Rows.{row_of}
 use Rattle.rules.proofs.RowLaws.{Lies, written_row}
@@ -10,7 +8,7 @@ use Rattle.rules.proofs.rows.written_within.Given as goal
 
 abbrev pub invariant-loop-v : goal.invariant-loop-v
 invariant-loop-v l =
-    Checked (Lies (written_row l.a_lows l.a_highs l.at (to_z w32 l.low) (to_z w32 l.high) l.last (to_z w32 l.last_low) (to_z w32 l.last_high)) (row_of l.b_lows l.b_highs)) l.variables l.v
+    Checked (Lies (written_row l.a_lows l.a_highs l.at l.low l.high l.last l.last_low l.last_high) (row_of l.b_lows l.b_highs)) l.variables l.v
 
 abbrev pub decreases-loop-v : goal.decreases-loop-v
 decreases-loop-v l = l.variables - l.v

@@ -8,18 +8,15 @@ use Rattle.rules.proofs.rows.written_word.Goals as goal
 
 pub returns-then-i-x : goal.returns-then-i-x
 returns-then-i-x c =
-    let s = c in
-    let a = s.args in
-    to_z-of_z s.ranges.b ∙ sym (written_last a.ws.now a.v a.x a.a a.b s.requires c.if-i-x.true)
+    let a = c.args in
+    to_z-of_z c.ranges.b ∙ sym (written_last a.ws.now a.v a.x a.a a.b c.requires c.if-i-x.true)
 
 pub returns-then-i-v : goal.returns-then-i-v
 returns-then-i-v c =
-    let s = c in
-    let a = s.args in
-    to_z-of_z s.ranges.a ∙ sym (written-first a.ws.now a.v a.x a.a a.b s.requires c.if-i-x.false c.if-i-v.true)
+    let a = c.args in
+    to_z-of_z c.ranges.a ∙ sym (written-first a.ws.now a.v a.x a.a a.b c.requires c.if-i-x.false c.if-i-v.true)
 
 pub returns : goal.returns
 returns c =
-    let s = c in
-    let a = s.args in
-    search rules ∙ sym (written-neither a.ws.now a.v a.x a.a a.b s.requires c.if-i-x.false c.if-i-v.false)
+    let a = c.args in
+    search rules ∙ sym (written-neither a.ws.now a.v a.x a.a a.b c.requires c.if-i-x.false c.if-i-v.false)

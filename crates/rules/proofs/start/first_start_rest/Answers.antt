@@ -15,32 +15,24 @@ use Rattle.rules.proofs.start.first_start_rest.Goals as goal
 pub holds_start-requires : goal.holds_start-requires
 holds_start-requires c =
     let is_row : c.loop-place.place < rows_of c.args.t.now =
-        omega (arith, c.loop-place-test.true, c.requires.t_bound.2) in
-    let turn = c in
-    let pre = turn.requires in
-    let low = row-lows-length pre.1.0 _ is_row in
-    let high = row-highs-length pre.1.0 _ is_row in
-    record { passes = pre.0; t_in_bounds = (rw c.row_lows-low.ensures (omega (arith, low)), rw c.row_highs-high.ensures (omega (arith, high))) }
+    omega (arith, c.loop-place-test.true, c.requires.t_bound.2) in
+    let low = row-lows-length c.requires.bounded _ is_row in
+    let high = row-highs-length c.requires.bounded _ is_row in
+    record { passes = c.requires.passes; t_in_bounds = (rw c.row_lows-low.ensures (omega (arith, low)), rw c.row_highs-high.ensures (omega (arith, high))) }
 
 pub returns-then-not-holds_start : goal.returns-then-not-holds_start
 returns-then-not-holds_start c =
-    let tested : let turn = c in let a = turn.args in c.holds_start.result ≡ rule11 a.t.now a.w.now turn.loop-place.place =
-        let highs = c in
-        let turn = highs in
-        start-at-rest _ _ _ (omega (arith, turn.requires.t_bound.0, turn.loop-place.invariant.past))
-        (rw (highs.row_lows-low.ensures, highs.row_highs-high.ensures) at c.holds_start.ensures) in
-    let turn = c in
-    sought turn.loop-place.invariant turn.loop-place-test.true (fails tested c.if-not-holds_start.true)
+    let tested : let a = c.args in c.holds_start.result ≡ rule11 a.t.now a.w.now c.loop-place.place =
+    start-at-rest _ _ _ (omega (arith, c.requires.t_bound.0, c.loop-place.invariant.past))
+    (rw (c.row_lows-low.ensures, c.row_highs-high.ensures) at c.holds_start.ensures) in
+    sought c.loop-place.invariant c.loop-place-test.true (fails tested c.if-not-holds_start.true)
 
 pub loop-place-preserved : goal.loop-place-preserved
 loop-place-preserved c =
-    let tested : let turn = c in let a = turn.args in c.holds_start.result ≡ rule11 a.t.now a.w.now turn.loop-place.place =
-        let highs = c in
-        let turn = highs in
-        start-at-rest _ _ _ (omega (arith, turn.requires.t_bound.0, turn.loop-place.invariant.past))
-        (rw (highs.row_lows-low.ensures, highs.row_highs-high.ensures) at c.holds_start.ensures) in
-    let turn = c in
-    seeks turn.loop-place.invariant turn.loop-place-test.true (holds tested c.if-not-holds_start.false)
+    let tested : let a = c.args in c.holds_start.result ≡ rule11 a.t.now a.w.now c.loop-place.place =
+    start-at-rest _ _ _ (omega (arith, c.requires.t_bound.0, c.loop-place.invariant.past))
+    (rw (c.row_lows-low.ensures, c.row_highs-high.ensures) at c.holds_start.ensures) in
+    seeks c.loop-place.invariant c.loop-place-test.true (holds tested c.if-not-holds_start.false)
 
 pub loop-place-init : goal.loop-place-init
 loop-place-init c =
@@ -49,17 +41,17 @@ loop-place-init c =
 pub row_lows-low-requires : goal.row_lows-low-requires
 row_lows-low-requires c =
     let is_row : c.loop-place.place < rows_of c.args.t.now =
-        omega (arith, c.loop-place-test.true, c.requires.t_bound.2) in
+    omega (arith, c.loop-place-test.true, c.requires.t_bound.2) in
     let place-fits : c.loop-place.place ≤ 4294967295 =
-        let bounded = c.requires.bounded in omega (arith, is_row, bounded.points, bounded.mutexes) in
+    let bounded = c.requires.bounded in omega (arith, is_row, bounded.points, bounded.mutexes) in
     record { all_value = c.lows-all_lows.ensures; k_bound = place-fits }
 
 pub row_highs-high-requires : goal.row_highs-high-requires
 row_highs-high-requires c =
     let is_row : c.loop-place.place < rows_of c.args.t.now =
-        omega (arith, c.loop-place-test.true, c.requires.t_bound.2) in
+    omega (arith, c.loop-place-test.true, c.requires.t_bound.2) in
     let place-fits : c.loop-place.place ≤ 4294967295 =
-        let bounded = c.requires.bounded in omega (arith, is_row, bounded.points, bounded.mutexes) in
+    let bounded = c.requires.bounded in omega (arith, is_row, bounded.points, bounded.mutexes) in
     record { all_value = c.highs-all_highs.ensures; k_bound = place-fits }
 
 pub returns : goal.returns

@@ -14,38 +14,26 @@ use Rattle.rules.proofs.start.holds_start.Goals as goal
 
 pub loop-v-preserved : goal.loop-v-preserved
 loop-v-preserved c =
-    let tested : let loop = c in let start = loop.before in let args = start.before.before.args in c.is_inside.result ≡ value_within start.before.starts.result.now (row_of args.lows.now args.highs.now) loop.loop.v =
-        let high = c in
-        let low = high in
-        let value = low in
-        let start = c in
-        let args = start.before.before.args in
-        value-within start.before.starts.result.now (row_of args.lows.now args.highs.now) _ (read_back value.word_at-z.type_inv ∙ value.word_at-z.ensures)
-        (read_back low.word_at.type_inv ∙ low.word_at.ensures) (read_back high.word_at-in-loop-v.type_inv ∙ high.word_at-in-loop-v.ensures) c.is_inside.ensures in
-    let turn = c in
-    checks turn.loop-v.inv turn.loop-v-test.taken (holds tested c.if-not-is_inside.false)
+    let tested : let args = c.args in c.is_inside.result ≡ value_within c.starts-values.result.now (row_of args.lows.now args.highs.now) c.loop-v.v =
+    let args = c.args in
+    value-within c.starts-values.result.now (row_of args.lows.now args.highs.now) _ (read_back c.word_at-z.type_inv ∙ c.word_at-z.ensures)
+    (read_back c.word_at.type_inv ∙ c.word_at.ensures) (read_back c.word_at-in-loop-v.type_inv ∙ c.word_at-in-loop-v.ensures) c.is_inside.ensures in
+    checks c.loop-v.invariant c.loop-v-test.true (holds tested c.if-not-is_inside.false)
 
 pub returns-then-not-is_inside : goal.returns-then-not-is_inside
 unfolding holds_start
 returns-then-not-is_inside c =
-    let tested : let loop = c in let start = loop.before in let args = start.before.before.args in c.is_inside.result ≡ value_within start.before.starts.result.now (row_of args.lows.now args.highs.now) loop.loop.v =
-        let high = c in
-        let low = high in
-        let value = low in
-        let start = c in
-        let args = start.before.before.args in
-        value-within start.before.starts.result.now (row_of args.lows.now args.highs.now) _ (read_back value.word_at-z.type_inv ∙ value.word_at-z.ensures)
-        (read_back low.word_at.type_inv ∙ low.word_at.ensures) (read_back high.word_at-in-loop-v.type_inv ∙ high.word_at-in-loop-v.ensures) c.is_inside.ensures in
-    let turn = c in
-    let start = turn in
-    rw (sym start.starts-values.ensures, sym start.number_at-variables.ensures.value)
-    (sym (fails-at _ _ _ turn.loop-v-test.taken (fails tested c.if-not-is_inside.true)))
+    let tested : let args = c.args in c.is_inside.result ≡ value_within c.starts-values.result.now (row_of args.lows.now args.highs.now) c.loop-v.v =
+    let args = c.args in
+    value-within c.starts-values.result.now (row_of args.lows.now args.highs.now) _ (read_back c.word_at-z.type_inv ∙ c.word_at-z.ensures)
+    (read_back c.word_at.type_inv ∙ c.word_at.ensures) (read_back c.word_at-in-loop-v.type_inv ∙ c.word_at-in-loop-v.ensures) c.is_inside.ensures in
+    rw (sym c.starts-values.ensures, sym c.number_at-variables.ensures.value)
+    (sym (fails-at _ _ _ c.loop-v-test.true (fails tested c.if-not-is_inside.true)))
 
 pub returns : goal.returns
 unfolding holds_start
 returns c =
-    let start = c in
-    rw (sym start.starts-values.ensures, sym start.number_at-variables.ensures.value) (sym (checked c.loop-v.invariant c.loop-v-test.false))
+    rw (sym c.starts-values.ensures, sym c.number_at-variables.ensures.value) (sym (checked c.loop-v.invariant c.loop-v-test.false))
 
 pub loop-v-init : goal.loop-v-init
 loop-v-init c =
@@ -54,17 +42,17 @@ loop-v-init c =
 pub word_at-z-requires : goal.word_at-z-requires
 word_at-z-requires c =
     let is-variable : c.loop-v.v < (sizes_of c.args.t.now).variables =
-        rw c.number_at-variables.ensures.value at c.loop-v-test.true in
-    let starts = c in value_there starts.requires.passes starts.starts-values.ensures is-variable
+    rw c.number_at-variables.ensures.value at c.loop-v-test.true in
+    value_there c.requires.passes c.starts-values.ensures is-variable
 
 pub word_at-requires : goal.word_at-requires
 word_at-requires c =
     let is-variable : c.loop-v.v < (sizes_of c.args.t.now).variables =
-        rw c.number_at-variables.ensures.value at c.loop-v-test.true in
-    let turn = c in omega (arith, is-variable, turn.requires.t_in_bounds.0)
+    rw c.number_at-variables.ensures.value at c.loop-v-test.true in
+    omega (arith, is-variable, c.requires.t_in_bounds.0)
 
 pub word_at-requires-in-loop-v : goal.word_at-requires-in-loop-v
 word_at-requires-in-loop-v c =
     let is-variable : c.loop-v.v < (sizes_of c.args.t.now).variables =
-        rw c.number_at-variables.ensures.value at c.loop-v-test.true in
-    let turn = c in omega (arith, is-variable, turn.requires.t_in_bounds.1)
+    rw c.number_at-variables.ensures.value at c.loop-v-test.true in
+    omega (arith, is-variable, c.requires.t_in_bounds.1)
