@@ -1,18 +1,16 @@
 -- Lists by their places, sums over a list, and a fold whose steps go forward in an order.
 -- Assumes nothing.
 use Prim.Native.Nat.{ℕ, zero, suc, ◌+◌, ◌*◌, ◌<◌, ◌≤◌}
-use mathlib.Core.Path.{◌≡◌, refl, sym, ap, subst, ◌∙◌}
+use mathlib.Core.Path.{◌≡◌, refl, sym, subst}
 use mathlib.Core.Bool.{Bool, true, false, ◌&&◌}
 use mathlib.Core.List.{List, [], ◌∷◌, ◌++◌}
 use native.Mathlib.Nat.{not-suc-le-zero, le_of_suc-le-suc, suc-mul, zero-mul, zero-add, add-zero, add-suc}
-use native.Mathlib.Decide.{ℕ_discrete, dec_lt}
+use native.Mathlib.Decide.{ℕ_discrete}
 use native.Mathlib.Omega.{arith}
-use lib.ListN.{length, get_or, set, replicate, get_or-eq_default}
-use lib.Seq.{get_or-set_same, get_or-set_other}
+use lib.ListN.{length, get_or, set, replicate}
 use Rattle.words.specs.Tabulate.{tabulate}
 use Rattle.words.specs.First.{all_below}
 use Rattle.words.proofs.Bools.{clash}
-use Rattle.words.proofs.FillLaws.{length-tabulate, tabulate-front}
 use Rattle.proposer.specs.Fold.{fold_below}
 
 module _ {A : Type 0} where

@@ -25,7 +25,7 @@ use Rattle.proposer.specs.Laws.{Words}
 use Rattle.proposer.specs.Fold.{fold_below}
 use Rattle.proposer.specs.Walk.{Brings}
 use Rattle.proposer.specs.Widen.{Places, place_in, take_in}
-use Rattle.proposer.specs.Passes.{State, begins, quiet, begun, row_in, slot_of, written_to, with_at, take_both, entry_into, disturb, unguarded, take_all, rested_by, file_in, filed_by, outcomes_in, leave_by, leave, visit, rest_visit, pass_of}
+use Rattle.proposer.specs.Passes.{State, begins, begun, row_in, slot_of, written_to, with_at, take_both, entry_into, disturb, unguarded, take_all, rested_by, file_in, filed_by, outcomes_in, leave_by, leave, visit, rest_visit, pass_of}
 use Rattle.proposer.proofs.ListLaws.{Forward, fold-forward, fold-still}
 use Rattle.proposer.proofs.WidenLaws.{Proper}
 use Rattle.proposer.proofs.TakeLaws.{ProperRow, proper-zero, Known, Fine, Good, Grows, grows-trans, grows-anti, Takes, take-forward}

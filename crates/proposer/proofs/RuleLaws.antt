@@ -9,7 +9,6 @@ use native.Mathlib.Omega.{arith}
 use borrow.Author.Tests.{lt-ltb, le-ltb, eq-eqb, eqb-true}
 use lib.Dec.{eqb, ltb}
 use lib.IntN.{ℤ, pos}
-use lib.ListN.{set}
 use lib.Seq.{get_or-set_same}
 use lib.Signed.{le_z, ≤ℤ_refl}
 use Rattle.words.specs.Words.{word_of, number_of}

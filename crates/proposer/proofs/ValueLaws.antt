@@ -10,7 +10,7 @@ use lib.Dec.{eqb}
 use lib.IntN.{ℤ, pos}
 use lib.ListN.{set, length-take, get_or-eq_default}
 use lib.Signed.{◌≤ℤ◌, ≤ℤ_refl}
-use Rattle.words.specs.Words.{word_of, inside, part_of}
+use Rattle.words.specs.Words.{word_of, part_of}
 use Rattle.words.proofs.PartLaws.{part-word}
 use Rattle.interval.specs.Integer.{min_z, max_z}
 use Rattle.interval.specs.Interval.{least, greatest, taken_of, Within}

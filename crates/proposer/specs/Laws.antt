@@ -10,7 +10,6 @@ use Rattle.table.specs.Validate.{validate_of}
 use Rattle.checker.specs.declared.Verdict.TheVariants.{Accepted}
 use Rattle.checker.specs.AlarmList.{alarm_words}
 use Rattle.checker.specs.Check.{check_of}
-use Rattle.checker.specs.Laws.{Accepts}
 use Rattle.proposer.specs.Fold.{fold_below}
 use Rattle.proposer.specs.Walk.{goes_of, Leads, sets_of, walks_of, brought, held_at, rule18}
 use Rattle.proposer.specs.Widen.{floor_of, ceil_of, low_to, high_to}

@@ -16,14 +16,11 @@ use lib.Signed.{mag, le_z, ◌≤ℤ◌, ≤ℤ_refl}
 use Rattle.words.specs.Words.{word_of, number_at}
 use Rattle.words.specs.First.{all_below}
 use Rattle.words.proofs.FirstLaws.{each-all_below, all_below-each}
-use Rattle.words.proofs.Bools.{clash, and_left, and_right}
+use Rattle.words.proofs.Bools.{and_left, and_right}
 use Rattle.words.proofs.PartLaws.{part-word}
 use Rattle.words.proofs.Signed.{read_back}
 use Rattle.interval.specs.Integer.{min_z, max_z}
-use Rattle.interval.specs.Interval.{on_ends, from_to}
-use Rattle.interval.specs.Lattice.{within_of}
-use Rattle.interval.specs.declared.Interval.TheVariants.{None, Between}
-use Rattle.interval.proofs.IntegerLaws.{≤_trans, le-true, le_z-yes', min-left, min-right, max-left, max-right}
+use Rattle.interval.proofs.IntegerLaws.{≤_trans, le_z-yes', min-left, min-right, max-left, max-right}
 use Rattle.interval.proofs.LatticeLaws.{from_to-mono}
 use Rattle.interval.proofs.MachineArithmetic.{word}
 use Rattle.table.specs.Layout.{task_of}

@@ -1,7 +1,7 @@
 -- Rules 12, 13 and 14 at a point, by what stands there: from what the code's calls give to what the definitions say. Each public law is about one
 -- `return` of the code, whose answer is y or is made of its tests.
 -- Assumes nothing.
-use Prim.Native.Nat.{ℕ, ◌+◌, ◌<◌, ◌≤◌}
+use Prim.Native.Nat.{ℕ, ◌+◌, ◌<◌}
 use mathlib.Core.Path.{◌≡◌, refl, sym, ap, ◌∙◌}
 use mathlib.Core.Bool.{Bool, true, false, not, cond, ◌&&◌, and-true, and_assoc}
 use mathlib.Core.List.{List, [], ◌∷◌, ◌++◌}

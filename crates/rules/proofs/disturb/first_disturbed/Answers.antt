@@ -1,14 +1,12 @@
 -- `rules::disturb::first_disturbed` meets its contract: each point before p passes refusal 15, as does one whose row holds the hull of the other tasks' entries; each entry before
 -- i leaves p alone; and both loops are left by the label at the first pair that fails. Assumes nothing.
-use Prim.Native.Nat.{ℕ, ◌-◌, ◌<◌, ◌≤◌}
+use Prim.Native.Nat.{ℕ, ◌<◌, ◌≤◌}
 use mathlib.Core.Path.{◌≡◌, refl, sym, ◌∙◌}
 use mathlib.Core.Bool.{true, false, not}
 use native.Mathlib.Omega.{arith}
 use borrow.Author.Tests.{not-true, not-false}
-use Rattle.words.specs.First.{all_below}
 use Rattle.words.proofs.Bools.{holds, fails}
 use Rattle.words.proofs.FirstLaws.{check, checks, checked, fails-at}
-use Rattle.analysis.specs.Rows.{row_of}
 use Rattle.rules.specs.Proposal.{rows_of, entries_of, reached_of}
 use Rattle.rules.specs.Rules.{rule15}
 use Rattle.rules.specs.Ready.{Apart, Readable}

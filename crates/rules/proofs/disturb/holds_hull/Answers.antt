@@ -1,6 +1,6 @@
 -- `rules::disturb::holds_hull` meets its contract: the row holds the ends of each variable before v, and the loop is left at the first whose ends it
 -- doesn't hold. Assumes nothing.
-use Prim.Native.Nat.{◌-◌, ◌<◌}
+use Prim.Native.Nat.{◌<◌}
 use mathlib.Core.Path.{◌≡◌, sym}
 use native.Mathlib.Omega.{arith}
 use Rattle.words.proofs.Bools.{fails, holds}

@@ -1,5 +1,4 @@
 -- `rules::disturb::hull` meets its contract: after each turn the row is around one more entry. Assumes nothing.
-use Prim.Native.Nat.{◌-◌}
 use borrow.Author.Rules.{rules}
 use Rattle.rules.proofs.DisturbLaws.{around-none, around-fewer}
 use Rattle.rules.proofs.disturb.hull.Goals as goal

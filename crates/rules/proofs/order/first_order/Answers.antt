@@ -1,6 +1,5 @@
 -- `rules::order::first_order` meets its contract: each entry passes refusal 10, and the loop is left at the first that does not, or past the last.
 -- Assumes nothing.
-use Prim.Native.Nat.{◌-◌}
 use Rattle.words.proofs.Bools.{fails, holds}
 use Rattle.words.proofs.FirstLaws.{start, next, stop, done}
 use Rattle.rules.proofs.order.first_order.Goals as goal

@@ -1,14 +1,8 @@
 -- `rules::point::split_fits` meets its contract: one walk of the condition gives the marks and both rows, and each row the outcome of its side.
 -- Assumes nothing.
-use mathlib.Core.Path.{◌≡◌, ap, ◌∙◌}
-use mathlib.Core.Bool.{Bool, true, false}
-use Rattle.table.specs.Layout.{sizes_of}
-use Rattle.table.specs.Tree.{cond_at}
+use mathlib.Core.Path.{ap, ◌∙◌}
+use mathlib.Core.Bool.{true, false}
 use Rattle.analysis.specs.declared.Split.{Split}
-use Rattle.analysis.specs.Analysis.{narrow_of}
-use Rattle.analysis.specs.Arrays.{row_in, left_of}
-use Rattle.analysis.specs.Rows.{Row}
-use Rattle.rules.specs.Ready.{Ordered}
 use Rattle.rules.proofs.OrderedLaws.{narrowed}
 use Rattle.rules.proofs.PointLaws.{split-side, both-fit}
 use Rattle.rules.proofs.point.split_fits.Goals as goal

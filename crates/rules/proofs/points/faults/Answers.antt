@@ -1,6 +1,5 @@
 -- `rules::points::faults` meets its contract: the loop walks the points of the range, and each turn adds one point's places and marks.
 -- Assumes nothing.
-use Prim.Native.Nat.{◌-◌}
 use native.Mathlib.Omega.{arith}
 use Rattle.rules.proofs.PointsLaws.{walk, walks, walked, walk-length}
 use Rattle.rules.proofs.points.faults.Goals as goal

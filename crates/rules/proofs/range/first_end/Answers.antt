@@ -1,6 +1,6 @@
 -- `rules::range::first_end` meets its contract: all words before the ends pass refusal 9, so do the ends before the loop's, and the loop is left at
 -- the first that does not, or past the last. Assumes nothing.
-use Prim.Native.Nat.{◌+◌, ◌-◌}
+use Prim.Native.Nat.{◌+◌}
 use mathlib.Core.Path.{◌≡◌}
 use native.Mathlib.Omega.{arith}
 use Rattle.words.proofs.Bools.{fails, holds}

@@ -1,6 +1,6 @@
 -- `rules::range::first_head` meets its contract: each word before a head passes refusal 9, and the loop is left at the first of its three words that
 -- does not, or past the last head. Assumes nothing.
-use Prim.Native.Nat.{◌+◌, ◌-◌, ◌<◌}
+use Prim.Native.Nat.{◌+◌, ◌<◌}
 use mathlib.Core.Path.{◌≡◌, ◌∙◌}
 use mathlib.Core.Bool.{true}
 use native.Mathlib.Omega.{arith}

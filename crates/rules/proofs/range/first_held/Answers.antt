@@ -1,6 +1,5 @@
 -- `rules::range::first_held` meets its contract: each word before i passes refusal 9, and the loop is left at the first held word that does not, or
 -- past the last. Assumes nothing.
-use Prim.Native.Nat.{◌-◌}
 use mathlib.Core.Path.{◌≡◌, sym, ◌∙◌}
 use native.Mathlib.Omega.{arith}
 use Rattle.words.proofs.Bools.{fails, holds}

@@ -1,6 +1,5 @@
 -- `rules::range::first_size` meets its contract: each of the four sizes passes refusal 8, and the loop is left at the first that does not, or past
 -- the last. Assumes nothing.
-use Prim.Native.Nat.{◌-◌}
 use Rattle.words.proofs.Bools.{fails, holds}
 use Rattle.words.proofs.FirstLaws.{start, next, stop, done}
 use Rattle.rules.proofs.range.first_size.Goals as goal

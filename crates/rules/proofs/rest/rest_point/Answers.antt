@@ -1,15 +1,11 @@
 -- `rules::rest::rest_point` meets its contract: a point that isn't reached passes, and so does any but an unlock. Assumes nothing.
 use mathlib.Core.Path.{◌≡◌, refl, sym, ◌∙◌}
-use mathlib.Core.Bool.{Bool}
 use borrow.Author.Rules.{rules}
 use Rattle.table.specs.Layout.{points_of}
 use Rattle.table.specs.Decode.{point_of}
-use Rattle.table.specs.declared.Point.{Point}
 use Rattle.table.specs.declared.Point.TheVariants.{End, Assign, Test, Lock}
 use Rattle.words.proofs.Bools.{fails, holds}
-use Rattle.rules.specs.Proposal.{held_of, row_at}
-use Rattle.rules.specs.Outcomes.{outcomes_by}
-use Rattle.rules.specs.Rules.{rests, rest_point}
+use Rattle.rules.specs.Rules.{rests}
 use Rattle.rules.proofs.RestLaws.{unlock-names, not-reached, reached}
 use Rattle.rules.proofs.rest.rest_point.Goals as goal
 

@@ -1,5 +1,4 @@
 -- `rules::rows::meets` meets its contract: the loop is left at the first interval that is empty, or past the last. Assumes nothing.
-use Prim.Native.Nat.{◌-◌}
 use mathlib.Core.Path.{◌≡◌, sym, ◌∙◌}
 use Rattle.words.proofs.Bools.{fails, holds}
 use Rattle.words.proofs.FirstLaws.{check, checks, checked}

@@ -1,6 +1,5 @@
 -- `rules::rows::met_within` meets its contract: the loop is left at the first met interval that isn't within the third row's, or past the last.
 -- Assumes nothing.
-use Prim.Native.Nat.{◌-◌}
 use mathlib.Core.Path.{◌≡◌, sym, ◌∙◌}
 use borrow.Author.Rules.{rules}
 use Rattle.words.proofs.Bools.{fails, holds}

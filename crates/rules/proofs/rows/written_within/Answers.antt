@@ -1,6 +1,5 @@
 -- `rules::rows::written_within` meets its contract: the loop is left at the first interval that isn't within the other row's, or past the last.
 -- The ends to be written are handed on by their bits, and read back after the loop. Assumes nothing.
-use Prim.Native.Nat.{◌-◌}
 use mathlib.Core.Path.{◌≡◌, sym, ◌∙◌}
 use borrow.Author.Rules.{rules}
 use mir.Syntax.{w32}

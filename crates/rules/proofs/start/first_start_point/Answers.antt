@@ -1,6 +1,6 @@
 -- `rules::start::first_start_point` meets its contract: each task before u can start, so every point before its first passes refusal 11, and the
 -- loop is left at the first task that can't, or past the last. Assumes nothing.
-use Prim.Native.Nat.{◌-◌, ◌<◌, ◌≤◌}
+use Prim.Native.Nat.{◌<◌, ◌≤◌}
 use mathlib.Core.Path.{◌≡◌, sym, ◌∙◌}
 use native.Mathlib.Omega.{arith}
 use Rattle.words.proofs.Bools.{fails, holds}

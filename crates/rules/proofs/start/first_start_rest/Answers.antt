@@ -1,6 +1,6 @@
 -- `rules::start::first_start_rest` meets its contract: each place before the loop's passes refusal 11, and the loop is left at the first that does
 -- not, or past the last. Assumes nothing.
-use Prim.Native.Nat.{◌-◌, ◌<◌, ◌≤◌}
+use Prim.Native.Nat.{◌<◌, ◌≤◌}
 use mathlib.Core.Path.{◌≡◌}
 use native.Mathlib.Omega.{arith}
 use Rattle.words.proofs.Bools.{fails, holds}

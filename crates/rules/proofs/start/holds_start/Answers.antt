@@ -1,6 +1,6 @@
 -- `rules::start::holds_start` meets its contract: each starting value before v lies within the row, and the loop is left at the first that does not.
 -- Assumes nothing.
-use Prim.Native.Nat.{◌-◌, ◌<◌}
+use Prim.Native.Nat.{◌<◌}
 use mathlib.Core.Path.{◌≡◌, sym, ◌∙◌}
 use native.Mathlib.Omega.{arith}
 use Rattle.words.proofs.Bools.{fails, holds}
