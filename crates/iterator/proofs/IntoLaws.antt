@@ -16,7 +16,7 @@ use Rattle.iterator.proofs.KeptLaws.{take-keeps}
 module _ (b : Bool) (t ts : List ℤ) (s : State) (k q : ℕ) where
   pub into-entries : (entry_into b t ts s k q).entries ≡ s.entries
   unfolding entry_into
-  into-entries = elim b [ true ↦ refl | false ↦ refl ]
+  into-entries = elim b as (λ b. (entry_into b t ts s k q).entries ≡ s.entries) [ true ↦ refl | false ↦ refl ]
 
   -- there is no entry, or no row
   pub into-no-entry : place_in s.entries q ≡ none → entry_into b t ts s k q ≡ s

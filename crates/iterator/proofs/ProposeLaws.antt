@@ -44,19 +44,21 @@ rising-few ts e = elim (dec_le (length ts) 32) [
 ]
 
 -- ---- the answer and the buffer
-abbrev pub Answers : List ℤ → List ℤ → List ℤ → Proposed → List ℤ → Type 0
-Answers t ts before r after =
-    (r ≡ propose_of t ts (length before)) × ((stage_numbers r.stage ≡ stage_numbers (propose_stage t ts (length before))) × (after ≡ buffer_of t ts before))
+pub record Answers (t ts before : List ℤ) (r : Proposed) (after : List ℤ) : Type 0 where
+  pub value : r ≡ propose_of t ts (length before)
+  pub stage_value : stage_numbers r.stage ≡ stage_numbers (propose_stage t ts (length before))
+  pub proposal_after : after ≡ buffer_of t ts before
 
 pub refusal-answers : (t ts before : List ℤ) (r : Proposed) (s : Stage) {rule p : ℕ} → r ≡ record { stage = s; words = 0; passes = 0 } → s ≡ Broken rule p
     → s ≡ propose_stage t ts (length before) → Answers t ts before r before
 unfolding propose_of propose_by buffer_of buffer_by
-refusal-answers t ts before r s f g e = (rw (← e, g) (f ∙ rw g refl), (rw (← e, f) refl, rw (← e, g) refl))
+refusal-answers t ts before r s f g e =
+    record { value = rw (← e, g) (f ∙ rw g refl); stage_value = rw (← e, f) refl; proposal_after = rw (← e, g) refl }
 
 pub proposal-answers : (t ts before : List ℤ) (r : Proposed) (after : List ℤ) → Passed ≡ propose_stage t ts (length before)
     → r ≡ propose_by Passed (proposed_of t ts) (made_for t ts).passes → after ≡ proposed_of t ts ++ drop (length (proposed_of t ts)) before → Answers t ts before r after
 unfolding propose_of propose_by buffer_of buffer_by
-proposal-answers t ts before r after e f g = (rw (← e) f, (rw (← e, f) refl, rw (← e) g))
+proposal-answers t ts before r after e f g = record { value = rw (← e) f; stage_value = rw (← e, f) refl; proposal_after = rw (← e) g }
 
 -- ---- the walks' marks
 pub marks-refuse : (t : List ℤ) (marks : List Bool) (n : ℕ) (f : Found) → marks ≡ walks_of t → f ≡ first_bad (one_in t marks) n → first_bad (rule18 t) n ≡ f

@@ -1,5 +1,6 @@
 // The fixpoint iterator: it computes the proposal that crate proposer defines.
 #![tactic(auto)]
+
 mod leave;
 mod nearest;
 mod pass;

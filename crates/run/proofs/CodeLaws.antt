@@ -71,8 +71,9 @@ word-is {z} p f = value_of z p (not-error f)
 
 -- a call that gave it
 pub word-given :
-    {z r : ℤ} → SFits w32 z → r ≡ word z → mag r < 2 ^ hbits w64 → ((p : ℕ) → evaluation_of (long r) p ≡ Value z p) × Code (long r)
-word-given f e ok = rw (handed64 e ok, to_z-of_z f) (λ p. word-is p f, word-code f)
+    {z r : ℤ} → SFits w32 z → r ≡ word z → mag r < 2 ^ hbits w64 →
+    record { evaluation : (p : ℕ) → evaluation_of (long r) p ≡ Value z p; code : Code (long r) }
+word-given f e ok = rw (handed64 e ok, to_z-of_z f) (record { evaluation = λ p. word-is p f; code = word-code f })
 
 -- ---- errors
 module _ (n k : ℕ) where
@@ -91,8 +92,9 @@ module _ (n k : ℕ) where
 
   -- a call that gave it
   pub error-given :
-      {r : ℤ} → n < 1024 → 1 ≤ k → k ≤ 2 → r ≡ error_of n k → mag r < 2 ^ hbits w64 → ((p : ℕ) → evaluation_of (long r) p ≡ Error n k p) × Code (long r)
-  error-given h l g e ok = rw (handed64 e ok) (λ p. error-is p l g, error-code h l g)
+      {r : ℤ} → n < 1024 → 1 ≤ k → k ≤ 2 → r ≡ error_of n k → mag r < 2 ^ hbits w64 →
+      record { evaluation : (p : ℕ) → evaluation_of (long r) p ≡ Error n k p; code : Code (long r) }
+  error-given h l g e ok = rw (handed64 e ok) (record { evaluation = λ p. error-is p l g; code = error-code h l g })
 
 -- how far an error is past the first one, as the code has it
 pub past_first : {z : ℤ} → Failed z → (z -ℤ pos 4294967297 ≡ pos (error_number z)) × (error_number z < 2048)
@@ -115,45 +117,51 @@ told t p e = rw e (truth-is t p)
 
 -- ---- an error z ends what would come after it
 module _ {z : ℤ} (f : SFits w64 z) (e : is_error z ≡ true) (code : Code z) where
-  pub value-ended : (g : ℤ → ℕ → Evaluation) → ((p : ℕ) → evaluation_of (long z) p ≡ value_then (evaluation_of z p) g) × Code (long z)
+  pub value-ended :
+      (g : ℤ → ℕ → Evaluation) →
+      record { evaluation : (p : ℕ) → evaluation_of (long z) p ≡ value_then (evaluation_of z p) g; code : Code (long z) }
   unfolding value_then
-  value-ended g = rw (to_z-of_z f) (λ p. rw (error-of z p e), code)
+  value-ended g = rw (to_z-of_z f) (record { evaluation = λ p. rw (error-of z p e); code = code })
 
-  pub tell-ended : (g : ℤ → ℕ → Verity) → ((p : ℕ) → verity_of (long z) p ≡ value_then_tell (evaluation_of z p) g) × Code (long z)
+  pub tell-ended :
+      (g : ℤ → ℕ → Verity) →
+      record { verity : (p : ℕ) → verity_of (long z) p ≡ value_then_tell (evaluation_of z p) g; code : Code (long z) }
   unfolding value_then_tell
-  tell-ended g = rw (to_z-of_z f) (λ p. rw (error-of z p e, failure-of z p e), code)
+  tell-ended g = rw (to_z-of_z f) (record { verity = λ p. rw (error-of z p e, failure-of z p e); code = code })
 
-  pub truth-ended : (g : Bool → ℕ → Verity) → ((p : ℕ) → verity_of (long z) p ≡ truth_then (verity_of z p) g) × Code (long z)
+  pub truth-ended :
+      (g : Bool → ℕ → Verity) →
+      record { verity : (p : ℕ) → verity_of (long z) p ≡ truth_then (verity_of z p) g; code : Code (long z) }
   unfolding truth_then
-  truth-ended g = rw (to_z-of_z f) (λ p. rw (failure-of z p e), code)
+  truth-ended g = rw (to_z-of_z f) (record { verity = λ p. rw (failure-of z p e); code = code })
 
 -- ---- a word z goes into what comes after it, which gave r
 module _ {r : ℤ} (f : SFits w64 r) (z : ℤ) (e : is_error z ≡ false) where
   pub value-went :
       (g : ℤ → ℕ → Evaluation) → ((p : ℕ) → evaluation_of r p ≡ g z p) → Code r →
-      ((p : ℕ) → evaluation_of (long r) p ≡ value_then (evaluation_of z p) g) × Code (long r)
+      record { evaluation : (p : ℕ) → evaluation_of (long r) p ≡ value_then (evaluation_of z p) g; code : Code (long r) }
   unfolding value_then
-  value-went g h code = rw (to_z-of_z f) (λ p. rw (value_of z p e) (h p), code)
+  value-went g h code = rw (to_z-of_z f) (record { evaluation = λ p. rw (value_of z p e) (h p); code = code })
 
   pub tell-went :
       (g : ℤ → Bool) → r ≡ truth_number (g z) →
-      ((p : ℕ) → verity_of (long r) p ≡ value_then_tell (evaluation_of z p) (λ b q. Truth (g b) q)) × Code (long r)
+      record { verity : (p : ℕ) → verity_of (long r) p ≡ value_then_tell (evaluation_of z p) (λ b q. Truth (g b) q); code : Code (long r) }
   unfolding value_then_tell
-  tell-went g h = rw (to_z-of_z f) (λ p. rw (value_of z p e) (told (g z) p h), rw h (truth-code (g z)))
+  tell-went g h = rw (to_z-of_z f) (record { verity = λ p. rw (value_of z p e) (told (g z) p h); code = rw h (truth-code (g z)) })
 
   pub truth-went :
       (g : Bool → Bool) → r ≡ truth_number (g (eq_z z (pos 1))) →
-      ((p : ℕ) → verity_of (long r) p ≡ truth_then (verity_of z p) (λ t q. Truth (g t) q)) × Code (long r)
+      record { verity : (p : ℕ) → verity_of (long r) p ≡ truth_then (verity_of z p) (λ t q. Truth (g t) q); code : Code (long r) }
   unfolding truth_then
-  truth-went g h = let t = g (eq_z z (pos 1)) in rw (to_z-of_z f) (λ p. rw (truth-of z p e) (told t p h), rw h (truth-code t))
+  truth-went g h = let t = g (eq_z z (pos 1)) in rw (to_z-of_z f) (record { verity = λ p. rw (truth-of z p e) (told t p h); code = rw h (truth-code t) })
 
 -- ---- what a call gave, handed on
-module _ {r : ℤ} (ok : mag r < 2 ^ hbits w64) where
-  pub handed-code : Code r → Code (long r)
-  handed-code h = rw (to_z-of_z (ok64 r ok)) h
+pub handed-code : {r : ℤ} → mag r < 2 ^ hbits w64 → Code r → Code (long r)
+handed-code {r} ok h = rw (to_z-of_z (ok64 r ok)) h
 
-  pub handed-value : (p : ℕ) {e : Evaluation} → (evaluation_of r p ≡ e) × Code r → (evaluation_of (long r) p ≡ e) × Code (long r)
-  handed-value p h = rw (to_z-of_z (ok64 r ok)) h
+module _ (r : ℤ) (ok : mag r < 2 ^ hbits w64) (p : ℕ) where
+  pub handed-value : {e : Evaluation} → evaluation_of r p ≡ e → evaluation_of (long r) p ≡ e
+  handed-value h = rw (to_z-of_z (ok64 r ok)) h
 
-  pub handed-truth : (p : ℕ) {e : Verity} → (verity_of r p ≡ e) × Code r → (verity_of (long r) p ≡ e) × Code (long r)
-  handed-truth p h = rw (to_z-of_z (ok64 r ok)) h
+  pub handed-truth : {e : Verity} → verity_of r p ≡ e → verity_of (long r) p ≡ e
+  handed-truth h = rw (to_z-of_z (ok64 r ok)) h

@@ -2,9 +2,9 @@
 -- Assumes nothing.
 use Prim.Native.Nat.{ℕ, ◌+◌, ◌<◌, ◌≤◌}
 use mathlib.Core.Path.{◌≡◌, refl, sym, ◌∙◌}
-use mathlib.Core.Bool.{Bool, true, false, not, cond, ◌&&◌}
+use mathlib.Core.Bool.{Bool, true, false, cond, ◌&&◌}
 use mathlib.Core.List.{List}
-use borrow.Author.Tests.{lt-ltb, le-ltb, ltb-true, not-true, not-false}
+use borrow.Author.Tests.{lt-ltb, le-ltb, ltb-true}
 use lib.Dec.{eqb, ltb}
 use lib.IntN.{ℤ, pos, negsuc}
 use lib.ListN.{length, set}
@@ -33,8 +33,8 @@ abbrev Runs : List ℤ → State → ℕ → Bool → Type 0
 Runs program s u b = b ≡ ltb u (tasks_in program) && eqb (stop_kind_in s u) 0
 
 -- such a u is a task
-pub goes_on : (program : List ℤ) (s : State) (u : ℕ) {b : Bool} → Runs program s u b → not b ≡ false → u < tasks_in program
-goes_on program s u {b} k n = ltb-true u _ (and_left _ _ (sym k ∙ not-false b n))
+pub goes_on : (program : List ℤ) (s : State) (u : ℕ) {b : Bool} → Runs program s u b → b ≡ true → u < tasks_in program
+goes_on program s u k n = ltb-true u _ (and_left _ _ (sym k ∙ n))
 
 module _ (t ws : List ℤ) (s : State) (at : ℕ) {r : Stepped} where
   pub no_word : length ws ≤ at → r ≡ stepped s at → r ≡ step_of t ws s at
@@ -42,16 +42,16 @@ module _ (t ws : List ℤ) (s : State) (at : ℕ) {r : Stepped} where
   no_word h o = rw (le-ltb _ _ h) o
 
   pub no-turn :
-      {program : List ℤ} {u : ℕ} {b : Bool} → Kept t program → at < length ws → u ≡ number_at ws at → Runs program s u b → not b ≡ true →
+      {program : List ℤ} {u : ℕ} {b : Bool} → Kept t program → at < length ws → u ≡ number_at ws at → Runs program s u b → b ≡ false →
       r ≡ stepped s (at + 1) → r ≡ step_of t ws s at
   unfolding step_of step_by turn_of turn_by runs_of
-  no-turn {b} kept h e k n o = rw (lt-ltb _ _ h, ← e, ← kept.tasks, ← k, not-true b n) o
+  no-turn kept h e k n o = rw (lt-ltb _ _ h, ← e, ← kept.tasks, ← k, n) o
 
   pub turn :
-      {program : List ℤ} {u : ℕ} {b : Bool} → Kept t program → at < length ws → u ≡ number_at ws at → Runs program s u b → not b ≡ false →
+      {program : List ℤ} {u : ℕ} {b : Bool} → Kept t program → at < length ws → u ≡ number_at ws at → Runs program s u b → b ≡ true →
       r ≡ act_of t ws (point_of (points_of t) (point_in s u)) s u (at + 1) → r ≡ step_of t ws s at
   unfolding step_of step_by turn_of turn_by runs_of
-  turn {b} kept h e k n o = rw (lt-ltb _ _ h, ← e, ← kept.tasks, ← k, not-false b n) o
+  turn kept h e k n o = rw (lt-ltb _ _ h, ← e, ← kept.tasks, ← k, n) o
 
 -- ---- the arms
 -- the state with other stop nodes and kinds than s

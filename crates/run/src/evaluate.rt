@@ -37,24 +37,24 @@ pub(crate) fn is_error(z: i64) -> bool
 
 fn error_number(z: i64) -> usize
     requires { Failed z }
-    ensures r_value { result ≡ error_number z }
-    ensures r_bound { result < 2048 }
+    ensures value { result ≡ error_number z }
+    ensures bound { result < 2048 }
 {
     (z - 4294967297) as usize
 }
 
 pub(crate) fn error_node(z: i64) -> usize
     requires { Failed z }
-    ensures r_value { result ≡ error_node z }
-    ensures r_bound { result < 1024 }
+    ensures value { result ≡ error_node z }
+    ensures bound { result < 1024 }
 {
     error_number(z) / 2
 }
 
 pub(crate) fn error_kind(z: i64) -> usize
     requires { Failed z }
-    ensures r_value { result ≡ error_kind z }
-    ensures r_bound { result ≤ 2 }
+    ensures value { result ≡ error_kind z }
+    ensures bound { result ≤ 2 }
 {
     1 + error_number(z) % 2
 }
@@ -83,8 +83,8 @@ fn code_of(t: bool) -> i64
 // The exact result z of the node n where it is a word, else an overflow.
 fn fit(n: usize, z: i64) -> i64
     requires { n < 1024 }
-    ensures fact { (p : ℕ) → evaluation_of result p ≡ fit_of n z p }
-    ensures fact_2 { Code result }
+    ensures evaluation { (p : ℕ) → evaluation_of result p ≡ fit_of n z p }
+    ensures code { Code result }
 {
     if (-2147483648 <= z) & (z <= 2147483647) {
         z
@@ -96,16 +96,16 @@ fn fit(n: usize, z: i64) -> i64
 // The exact result z of a division by b at the node n, or the error that b is 0.
 fn divide(n: usize, b: i32, z: i64) -> i64
     requires { n < 1024 }
-    ensures fact { (p : ℕ) → evaluation_of result p ≡ perform_by (eq_z b (pos 0)) n z p }
-    ensures fact_2 { Code result }
+    ensures evaluation { (p : ℕ) → evaluation_of result p ≡ perform_by (eq_z b (pos 0)) n z p }
+    ensures code { Code result }
 {
     if same(b, 0) { failed(n, 2) } else { fit(n, z) }
 }
 
 fn perform(n: usize, k: usize, a: i32, b: i32) -> i64
     requires { n < 1024 }
-    ensures fact { (p : ℕ) → evaluation_of result p ≡ perform_of n (kind_operation k) a b p }
-    ensures fact_2 { Code result }
+    ensures evaluation { (p : ℕ) → evaluation_of result p ≡ perform_of n (kind_operation k) a b p }
+    ensures code { Code result }
 {
     match k {
         4 => fit(n, plus(a, b)),
@@ -118,8 +118,8 @@ fn perform(n: usize, k: usize, a: i32, b: i32) -> i64
 
 // The next word if it lies in a..b, else a; with no word left, a.
 fn input(a: i32, b: i32, schedule: &[i32], at: &mut usize) -> i64
-    ensures at_after { evaluation_of result at.new ≡ input_by (ltb at.old (length schedule.now)) a b (word_of schedule.now at.old) at.old }
-    ensures fact { Code result }
+    ensures evaluation { evaluation_of result at.new ≡ input_by (ltb at.old (length schedule.now)) a b (word_of schedule.now at.old) at.old }
+    ensures code { Code result }
 {
     let p = *at;
     if p < schedule.len() {
@@ -157,8 +157,8 @@ fn pair(k: usize, x: bool, y: bool) -> bool
 fn negated(n: usize, x: i64) -> i64
     requires n_bound { n < 1024 }
     requires code { Code x }
-    ensures fact { (p : ℕ) → evaluation_of result p ≡ value_then (evaluation_of x p) (λ a q. fit_of n (neg_ℤ a) q) }
-    ensures fact_2 { Code result }
+    ensures evaluation { (p : ℕ) → evaluation_of result p ≡ value_then (evaluation_of x p) (λ a q. fit_of n (neg_ℤ a) q) }
+    ensures code { Code result }
 {
     if is_error(x) {
         x
@@ -170,8 +170,8 @@ fn negated(n: usize, x: i64) -> i64
 fn performed(n: usize, k: usize, a: i32, y: i64) -> i64
     requires n_bound { n < 1024 }
     requires code { Code y }
-    ensures fact { (p : ℕ) → evaluation_of result p ≡ value_then (evaluation_of y p) (λ b q. perform_of n (kind_operation k) a b q) }
-    ensures fact_2 { Code result }
+    ensures evaluation { (p : ℕ) → evaluation_of result p ≡ value_then (evaluation_of y p) (λ b q. perform_of n (kind_operation k) a b q) }
+    ensures code { Code result }
 {
     if is_error(y) {
         y
@@ -182,8 +182,8 @@ fn performed(n: usize, k: usize, a: i32, y: i64) -> i64
 
 fn compared(k: usize, a: i32, y: i64) -> i64
     requires { Code y }
-    ensures fact { (p : ℕ) → verity_of result p ≡ value_then_tell (evaluation_of y p) (λ b q. Truth (test_of (kind_comparison k) a b) q) }
-    ensures fact_2 { Code result }
+    ensures verity { (p : ℕ) → verity_of result p ≡ value_then_tell (evaluation_of y p) (λ b q. Truth (test_of (kind_comparison k) a b) q) }
+    ensures code { Code result }
 {
     if is_error(y) {
         y
@@ -194,8 +194,8 @@ fn compared(k: usize, a: i32, y: i64) -> i64
 
 fn paired(k: usize, t: bool, y: i64) -> i64
     requires { Code y }
-    ensures fact { (p : ℕ) → verity_of result p ≡ truth_then (verity_of y p) (λ u q. Truth (kind_pair k t u) q) }
-    ensures fact_2 { Code result }
+    ensures verity { (p : ℕ) → verity_of result p ≡ truth_then (verity_of y p) (λ u q. Truth (kind_pair k t u) q) }
+    ensures code { Code result }
 {
     if is_error(y) {
         y
@@ -206,8 +206,8 @@ fn paired(k: usize, t: bool, y: i64) -> i64
 
 fn opposite(x: i64) -> i64
     requires { Code x }
-    ensures fact { (p : ℕ) → verity_of result p ≡ truth_then (verity_of x p) (λ t q. Truth (not t) q) }
-    ensures fact_2 { Code result }
+    ensures verity { (p : ℕ) → verity_of result p ≡ truth_then (verity_of x p) (λ t q. Truth (not t) q) }
+    ensures code { Code result }
 {
     if is_error(x) { x } else { code_of(!is_true(x)) }
 }
@@ -219,8 +219,8 @@ fn leaf<'a>(program: &'a [i32; 5121], n: usize, values: &'a [i32; 16]) -> i64
     requires program_len { length program.now ≡ 5121 }
     requires n_bound { n < 1024 }
     requires leaf { Leaf (number_at program.now (4 * n)) }
-    ensures fact { (ws : List ℤ) (p : ℕ) → evaluation_of result p ≡ result_of (arith_at (nodes_in program.now) n) values.now ws p }
-    ensures fact_2 { Code result }
+    ensures evaluation { (ws : List ℤ) (p : ℕ) → evaluation_of result p ≡ result_of (arith_at (nodes_in program.now) n) values.now ws p }
+    ensures code { Code result }
 {
     match number(program[4 * n]) {
         0 => widen(program[4 * n + 1]),
@@ -240,8 +240,8 @@ fn operand<'a, 'b>(
 ) -> i64
     requires program_len { length program.now ≡ 5121 }
     requires n_bound { n < 1024 }
-    ensures at_after { evaluation_of result at.new ≡ result_of (arith_at (nodes_in program.now) n) values.now schedule.now at.old }
-    ensures fact { Code result }
+    ensures evaluation { evaluation_of result at.new ≡ result_of (arith_at (nodes_in program.now) n) values.now schedule.now at.old }
+    ensures code { Code result }
 {
     match number(program[4 * n]) {
         0 => leaf(program, n, values),
@@ -262,8 +262,8 @@ pub(crate) fn value<'a, 'b>(
 ) -> i64
     requires program_len { length program.now ≡ 5121 }
     requires n_bound { n < 1024 }
-    ensures at_after { evaluation_of result at.new ≡ result_of (arith_at (nodes_in program.now) n) values.now schedule.now at.old }
-    ensures fact { Code result }
+    ensures evaluation { evaluation_of result at.new ≡ result_of (arith_at (nodes_in program.now) n) values.now schedule.now at.old }
+    ensures code { Code result }
 {
     let k = number(program[4 * n]);
     let a = number(program[4 * n + 1]);
@@ -315,8 +315,8 @@ pub(crate) fn verity<'a, 'b>(
 ) -> i64
     requires program_len { length program.now ≡ 5121 }
     requires n_bound { n < 1024 }
-    ensures at_after { verity_of result at.new ≡ truth (cond_at (nodes_in program.now) n) values.now schedule.now at.old }
-    ensures fact { Code result }
+    ensures verity { verity_of result at.new ≡ truth (cond_at (nodes_in program.now) n) values.now schedule.now at.old }
+    ensures code { Code result }
 {
     let k = number(program[4 * n]);
     let a = number(program[4 * n + 1]);

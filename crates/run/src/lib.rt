@@ -1,5 +1,6 @@
 // The run of a table by a schedule: its state, one step, and the whole.
 #![tactic(auto)]
+
 ghost use Rattle.run.specs.Laws.{Laws};
 
 mod evaluate;

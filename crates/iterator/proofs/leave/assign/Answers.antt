@@ -9,14 +9,15 @@ use Rattle.iterator.proofs.leave.assign.Goals as goal
 
 pub returns-in_default : goal.returns-in_default
 returns-in_default c x own =
-    let value = c in
-    let words = value in
-    assign-none _ _ _ _ _ _ _ _ _ (sym (written_is _ own words.node_words.ensures value.value-written.ensures.value) ∙ c.in_default.is)
+    assign-none _ _ _ _ _ _ _ _ _ (sym (written_is _ own c.node_words.ensures c.value-written.ensures.value) ∙ c.in_default.is)
 
 pub file-requires : goal.file-requires
 file-requires c =
-    let start = c in
-    (start.requires.passes.0, (filed-below start.requires.passes.0 _ start.requires.p_bound.0 start.requires.p_bound.1 start.requires.passes.1, omega (arith, start.requires.p_bound.0, start.requires.passes.0.points.high)))
+    record {
+      passes = c.requires.passes.0;
+      p_bound = filed-below c.requires.passes.0 _ c.requires.p_bound.0 c.requires.p_bound.1 c.requires.passes.1;
+      p_bound_2 = omega (arith, c.requires.p_bound.0, c.requires.passes.0.points.high);
+    }
 
 pub take_row-requires : goal.take_row-requires
 take_row-requires c =
@@ -24,41 +25,36 @@ take_row-requires c =
 
 pub returns : goal.returns
 returns c x own =
-    let file = c in
-    let told = file in
-    let matched = told in
-    let value = matched in
-    let words = value in
-    assign-left words.requires.passes.0 _ words.requires.p_bound.0 words.requires.p_bound.1 words.requires.passes.1 _ _ _ _ _ own
-    (written_is _ own words.node_words.ensures value.value-written.ensures.value) matched.in-Between.is
-    (read_back told.in-Between.known_told-1-own.given.0.1) (read_back told.in-Between.known_told-1-own.given.1.0.1) c.take_row.ensures file.file.ensures
+    assign-left c.requires.passes.0 _ c.requires.p_bound.0 c.requires.p_bound.1 c.requires.passes.1 _ _ _ _ _ own
+    (written_is _ own c.node_words.ensures c.value-written.ensures.value) c.in-Between.is
+    (read_back c.in-Between.known_told-1-own.given.0.1) (read_back c.in-Between.known_told-1-own.given.1.0.1) c.take_row.ensures c.file.ensures
 
 pub offset_bounds-next-v : goal.offset_bounds-next-v
 offset_bounds-next-v c =
     let few : c.args.v < 16 =
-        variable-few c.requires.passes.0 _ c.requires.p_bound.0 c.requires.p_bound.1 in
+    variable-few c.requires.passes.0 _ c.requires.p_bound.0 c.requires.p_bound.1 in
     omega (arith, few)
 
 pub bounds-next-v : goal.bounds-next-v
 bounds-next-v c =
     let few : c.args.v < 16 =
-        variable-few c.requires.passes.0 _ c.requires.p_bound.0 c.requires.p_bound.1 in
+    variable-few c.requires.passes.0 _ c.requires.p_bound.0 c.requires.p_bound.1 in
     omega (arith, few)
 
 pub overflow_add-next : goal.overflow_add-next
 overflow_add-next c =
     let few : c.args.v < 16 =
-        variable-few c.requires.passes.0 _ c.requires.p_bound.0 c.requires.p_bound.1 in
+    variable-few c.requires.passes.0 _ c.requires.p_bound.0 c.requires.p_bound.1 in
     omega (arith, few)
 
 pub offset_bounds-next-v-2 : goal.offset_bounds-next-v-2
 offset_bounds-next-v-2 c =
     let few : c.args.v < 16 =
-        variable-few c.requires.passes.0 _ c.requires.p_bound.0 c.requires.p_bound.1 in
+    variable-few c.requires.passes.0 _ c.requires.p_bound.0 c.requires.p_bound.1 in
     omega (arith, few)
 
 pub bounds-next-v-2 : goal.bounds-next-v-2
 bounds-next-v-2 c =
     let few : c.args.v < 16 =
-        variable-few c.requires.passes.0 _ c.requires.p_bound.0 c.requires.p_bound.1 in
+    variable-few c.requires.passes.0 _ c.requires.p_bound.0 c.requires.p_bound.1 in
     omega (arith, few)

@@ -6,6 +6,4 @@ use Rattle.iterator.proofs.leave.file.Goals as goal
 pub returns : goal.returns
 unfolding file_in
 returns c =
-    let points = c in
-    let start = points in
-    rw (points.number_at.ensures.value, to_z-of_z start.ranges.low, to_z-of_z start.ranges.high) at c.take.ensures
+    rw (c.number_at.ensures.value, to_z-of_z c.ranges.low, to_z-of_z c.ranges.high) at c.take.ensures

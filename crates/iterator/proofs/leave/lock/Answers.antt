@@ -1,5 +1,5 @@
 -- `iterator::leave::lock` meets its contract: there is an outcome where the mutex isn't held and its rest row meets the row. Assumes nothing.
-use mathlib.Core.Path.{◌≡◌, sym, ◌∙◌}
+use mathlib.Core.Path.{◌≡◌, sym, ap, ◌∙◌}
 use mathlib.Core.Bool.{not}
 use native.Mathlib.Omega.{arith}
 use Rattle.rules.specs.Held.{has_of}
@@ -12,8 +12,8 @@ use Rattle.iterator.proofs.leave.lock.Goals as goal
 pub returns-then-not-disjoint : goal.returns-then-not-disjoint
 returns-then-not-disjoint c entries x own =
     let mutex-held : let a = c.args in has_of (held_in a.plan.now a.p) a.m ≡ not c.disjoint.result =
-        let start = c in mutex-is start.args.plan.now _ _ start.requires.p_bound.0 (mutex-fits start.requires.passes start.requires.p_bound.1) c.disjoint.ensures in
-    lock-held _ _ _ _ _ _ _ _ (mutex-held ∙ c.if-not-disjoint.true)
+    mutex-is c.args.plan.now _ _ c.requires.p_bound.0 (mutex-fits c.requires.passes c.requires.p_bound.1) c.disjoint.ensures in
+    lock-held _ _ _ _ _ _ _ _ (mutex-held ∙ ap not c.if-not-disjoint.true)
 
 pub row_of-rest-requires : goal.row_of-rest-requires
 row_of-rest-requires c =
@@ -26,30 +26,17 @@ meet_rows-requires c =
 pub returns-then-meet_rows : goal.returns-then-meet_rows
 returns-then-meet_rows c entries x own =
     let mutex-held : let a = c.args in has_of (held_in a.plan.now a.p) a.m ≡ not c.disjoint.result =
-        let start = c in mutex-is start.args.plan.now _ _ start.requires.p_bound.0 (mutex-fits start.requires.passes start.requires.p_bound.1) c.disjoint.ensures in
-    let test₂ = c in
-    let meet = test₂ in
-    let variables = meet in
-    let rest = variables in
-    let points = rest in
-    let left = points in
-    let test = left in
-    let said = rw variables.number_at-2.ensures.value at meet.meet_rows.ensures in
-    lock-met-left _ _ rest.row_of-rest.result _ _ _ _ test.requires.passes own (rw points.number_at.ensures.value at rest.row_of-rest.ensures)
-    (mutex-held ∙ left.if-not-disjoint.false)
-    _ _ _ (sym said.0 ∙ test₂.if-meet_rows.true) (said.1 test₂.if-meet_rows.true) c.take_row.ensures
+    mutex-is c.args.plan.now _ _ c.requires.p_bound.0 (mutex-fits c.requires.passes c.requires.p_bound.1) c.disjoint.ensures in
+    let said = rw c.number_at-2.ensures.value at c.meet_rows.ensures in
+    lock-met-left _ _ c.row_of-rest.result _ _ _ _ c.requires.passes own (rw c.number_at.ensures.value at c.row_of-rest.ensures)
+    (mutex-held ∙ ap not c.if-not-disjoint.false)
+    _ _ _ (sym said.value ∙ c.if-meet_rows.true) (said.met_to c.if-meet_rows.true) c.take_row.ensures
 
 pub returns-else-meet_rows : goal.returns-else-meet_rows
 returns-else-meet_rows c entries x own =
     let mutex-held : let a = c.args in has_of (held_in a.plan.now a.p) a.m ≡ not c.disjoint.result =
-        let start = c in mutex-is start.args.plan.now _ _ start.requires.p_bound.0 (mutex-fits start.requires.passes start.requires.p_bound.1) c.disjoint.ensures in
-    let meet = c in
-    let variables = meet in
-    let rest = variables in
-    let points = rest in
-    let left = points in
-    let test = left in
-    let said = rw variables.number_at-2.ensures.value at meet.meet_rows.ensures in
-    lock-apart-left _ _ rest.row_of-rest.result _ _ _ _ test.requires.passes own (rw points.number_at.ensures.value at rest.row_of-rest.ensures)
-    (mutex-held ∙ left.if-not-disjoint.false)
-    _ (sym said.0 ∙ c.if-meet_rows.false)
+    mutex-is c.args.plan.now _ _ c.requires.p_bound.0 (mutex-fits c.requires.passes c.requires.p_bound.1) c.disjoint.ensures in
+    let said = rw c.number_at-2.ensures.value at c.meet_rows.ensures in
+    lock-apart-left _ _ c.row_of-rest.result _ _ _ _ c.requires.passes own (rw c.number_at.ensures.value at c.row_of-rest.ensures)
+    (mutex-held ∙ ap not c.if-not-disjoint.false)
+    _ (sym said.value ∙ c.if-meet_rows.false)

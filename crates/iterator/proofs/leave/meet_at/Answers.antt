@@ -12,18 +12,13 @@ use Rattle.iterator.proofs.leave.meet_at.Goals as goal
 
 pub returns : goal.returns
 returns c =
-    let second = c in
-    let first = second in
-    let max = first in
-    let other = max in
-    let one = other in
-    let row = one.args.row.now in
-    let with = one.args.with.now in
-    let v = one.args.v in
-    let low : to_z w32 (of_z w32 max.max32-low.result) ≡ met_low row with v =
-    through-bits max_z (ok32 _ one.max32-arg-1.given) (ok32 _ other.max32-arg-2-1.given) (ok32 _ max.max32-low.type_inv) max.max32-low.ensures in
+    let row = c.args.row.now in
+    let with = c.args.with.now in
+    let v = c.args.v in
+    let low : to_z w32 (of_z w32 c.max32-low.result) ≡ met_low row with v =
+    through-bits max_z (ok32 _ c.max32-arg-1.given) (ok32 _ c.max32-arg-2-1.given) (ok32 _ c.max32-low.type_inv) c.max32-low.ensures in
     let high : to_z w32 (of_z w32 c.min32-high.result) ≡ met_high row with v =
-    through-bits min_z (ok32 _ first.min32-arg-1.given) (ok32 _ second.min32-arg-2-1.given) (ok32 _ c.min32-high.type_inv) c.min32-high.ensures in
+    through-bits min_z (ok32 _ c.min32-arg-1.given) (ok32 _ c.min32-arg-2-1.given) (ok32 _ c.min32-high.type_inv) c.min32-high.ensures in
     record { value = rw (low, high) refl; row_after = rw (low, high) refl }
 
 pub slice_copy_out-max32 : goal.slice_copy_out-max32

@@ -4,12 +4,7 @@ use Rattle.iterator.proofs.leave.row_at.Goals as goal
 
 pub returns : goal.returns
 returns c =
-    let highs = c in
-    let lows = highs in
-    let arg = lows in
-    let mutexes = arg in
-    let points = mutexes in
-    let variables = points in
-    let start = variables in
-    row_carries start.args.t.now start.args.rows.now start.args.k start.requires.k_bound start.requires.passes arg.lows_at-arg-1.given.0
-    (rw (variables.number_at-n.ensures.value, points.number_at.ensures.value, mutexes.number_at-2.ensures.value) at lows.lows_at.ensures) (rw (variables.number_at-n.ensures.value, points.number_at.ensures.value, mutexes.number_at-2.ensures.value) at highs.highs_at.ensures) c.own.ensures
+    row_carries c.args.t.now c.args.rows.now c.args.k c.requires.k_bound c.requires.passes c.lows_at-arg-1.given
+    (rw (c.number_at-n.ensures.value, c.number_at.ensures.value, c.number_at-2.ensures.value) at c.lows_at.ensures)
+    (rw (c.number_at-n.ensures.value, c.number_at.ensures.value, c.number_at-2.ensures.value) at c.highs_at.ensures)
+    c.own.ensures

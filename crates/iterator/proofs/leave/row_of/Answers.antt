@@ -5,14 +5,9 @@ use Rattle.iterator.proofs.leave.row_of.Goals as goal
 
 pub returns-then-not-is_there : goal.returns-then-not-is_there
 returns-then-not-is_there c =
-    let there = c in
-    let start = there in
-    absent-own start.args.t.now start.args.rows.now start.args.k start.requires.k_bound (fails there.is_there.ensures c.if-not-is_there.true)
+    absent-own c.args.t.now c.args.rows.now c.args.k c.requires.k_bound (fails c.is_there.ensures c.if-not-is_there.true)
 
 pub returns : goal.returns
 returns c =
-    let test = c in
-    let there = test in
-    let start = there in
-    there-own start.args.t.now start.args.rows.now start.args.k start.requires.k_bound (holds there.is_there.ensures test.if-not-is_there.false)
+    there-own c.args.t.now c.args.rows.now c.args.k c.requires.k_bound (holds c.is_there.ensures c.if-not-is_there.false)
     c.row_at.ensures.words

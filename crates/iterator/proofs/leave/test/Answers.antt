@@ -4,8 +4,6 @@ use Rattle.iterator.proofs.leave.test.Goals as goal
 
 pub returns : goal.returns
 returns c h entries p x own =
-    let first = c in
-    let sides = first in
-    let words = sides in
-    let left = sides.sides-said.new.1.1.1.1 in
-    test-left _ _ _ _ left.0 left.1.0 _ _ _ _ _ _ own words.node_words.ensures sides.sides-said.ensures.value sides.sides-said.ensures.yes_after sides.sides-said.ensures.no_after first.take_if.ensures c.take_if-2.ensures
+    let left = c.sides-said.new in
+    test-left _ _ _ _ left.yes left.no _ _ _ _ _ _ own c.node_words.ensures
+    c.sides-said.ensures.value c.sides-said.ensures.yes_after c.sides-said.ensures.no_after c.take_if.ensures c.take_if-2.ensures

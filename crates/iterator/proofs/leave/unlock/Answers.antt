@@ -11,17 +11,13 @@ use Rattle.iterator.proofs.leave.unlock.Goals as goal
 pub returns-then-disjoint : goal.returns-then-disjoint
 returns-then-disjoint c entries x own =
     let mutex-held : let a = c.args in has_of (held_in a.plan.now a.p) a.m ≡ not c.disjoint.result =
-        let start = c in mutex-is start.args.plan.now _ _ start.requires.p_bound.0 (mutex-fits start.requires.passes start.requires.p_bound.1) c.disjoint.ensures in
+    mutex-is c.args.plan.now _ _ c.requires.p_bound.0 (mutex-fits c.requires.passes c.requires.p_bound.1) c.disjoint.ensures in
     unlock-free _ _ _ _ _ _ _ _ (mutex-held ∙ ap not c.if-disjoint.true)
 
 pub returns : goal.returns
 returns c entries x own =
     let mutex-held : let a = c.args in has_of (held_in a.plan.now a.p) a.m ≡ not c.disjoint.result =
-        let start = c in mutex-is start.args.plan.now _ _ start.requires.p_bound.0 (mutex-fits start.requires.passes start.requires.p_bound.1) c.disjoint.ensures in
-    let points = c in
-    let first = points in
-    let left = first in
-    let test = left in
-    unlock-left _ _ _ _ _ _ _ _ _ test.requires.passes own
-    (mutex-held ∙ ap not left.if-disjoint.false)
-    first.take_row.ensures (rw points.number_at.ensures.value at c.take_row-2.ensures)
+    mutex-is c.args.plan.now _ _ c.requires.p_bound.0 (mutex-fits c.requires.passes c.requires.p_bound.1) c.disjoint.ensures in
+    unlock-left _ _ _ _ _ _ _ _ _ c.requires.passes own
+    (mutex-held ∙ ap not c.if-disjoint.false)
+    c.take_row.ensures (rw c.number_at.ensures.value at c.take_row-2.ensures)

@@ -3,13 +3,11 @@
 use Prim.Native.Nat.{◌-◌, ◌≤◌}
 use mathlib.Core.Path.{◌≡◌}
 use lib.ListN.{length}
-use mir.Syntax.{w32}
-use mir.Val.{to_z}
 use Rattle.proposer.specs.Widen.{ceil_of}
 use Rattle.iterator.proofs.nearest.ceil.Given as goal
 
 abbrev pub invariant-loop-i : goal.invariant-loop-i
-invariant-loop-i l = (l.i ≤ length l.ts) × (to_z w32 l.best ≡ ceil_of l.ts l.i (to_z w32 l.z))
+invariant-loop-i l = (l.i ≤ length l.ts) × (l.best ≡ ceil_of l.ts l.i l.z)
 
 abbrev pub decreases-loop-i : goal.decreases-loop-i
 decreases-loop-i l = length l.ts - l.i

@@ -1,6 +1,6 @@
 -- `iterator::nearest::floor` meets its contract: each turn the nearest of one threshold more.
 -- Assumes nothing.
-use Prim.Native.Nat.{◌-◌, zero-le}
+use Prim.Native.Nat.{zero-le}
 use mathlib.Core.Path.{refl, ◌∙◌}
 use native.Mathlib.Nat.{le_antisymm}
 use native.Mathlib.Omega.{arith}
@@ -16,16 +16,13 @@ loop-i-init c = (zero-le, refl)
 
 pub loop-i-preserved : goal.loop-i-preserved
 loop-i-preserved c =
-    let read = c in
-    let turn = read in
     let gives = c.nearer_below-best in
-    (omega arith, floor-next _ _ _ (read_back read.nearer_below-arg-1.given) turn.loop-i.invariant.1 (read_back gives.type_inv ∙ gives.ensures))
+    (omega arith, floor-next _ _ _ (read_back c.nearer_below-arg-1.given) c.loop-i.invariant.1 (read_back gives.type_inv ∙ gives.ensures))
 
 pub returns : goal.returns
 returns c =
     let loop = c.loop-i in
-    let start = c in
-    loop.invariant.1 ∙ rw (le_antisymm loop.invariant.0 c.loop-i-test.false, to_z-of_z start.ranges.z) refl
+    loop.invariant.1 ∙ rw (le_antisymm loop.invariant.0 c.loop-i-test.false, to_z-of_z c.ranges.z) refl
 
 pub overflow_add-i : goal.overflow_add-i
 overflow_add-i c =

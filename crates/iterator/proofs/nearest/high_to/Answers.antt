@@ -18,8 +18,7 @@ returns-then-new-old c =
 pub returns-else-new-old : goal.returns-else-new-old
 unfolding high_to
 returns-else-new-old c =
-    let start = c in
-    let fits = start.ranges in
-    let ts = start.args.ts.now in
+    let fits = c.ranges in
+    let ts = c.args.ts.now in
     rw (le32 fits.new fits.old c.if-new-old.false)
     (handed32 c.ceil.ensures c.ceil.type_inv ∙ ap (λ (z : ℤ). ceil_of ts (length ts) z) (to_z-of_z fits.new))

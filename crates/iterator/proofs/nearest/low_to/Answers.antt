@@ -18,8 +18,7 @@ returns-then-old-new c =
 pub returns-else-old-new : goal.returns-else-old-new
 unfolding low_to
 returns-else-old-new c =
-    let start = c in
-    let fits = start.ranges in
-    let ts = start.args.ts.now in
+    let fits = c.ranges in
+    let ts = c.args.ts.now in
     rw (le32 fits.old fits.new c.if-old-new.false)
     (handed32 c.floor.ensures c.floor.type_inv ∙ ap (λ (z : ℤ). floor_of ts (length ts) z) (to_z-of_z fits.new))

@@ -7,15 +7,13 @@ use Rattle.iterator.proofs.pass.disturb.Goals as goal
 
 pub returns-then-disjoint : goal.returns-then-disjoint
 returns-then-disjoint c =
-    let taken = c in
-    let other = taken in
     c.entry_into.ensures
-    ∙ disturb-other other.requires.ready _ _ _ other.requires.p_bound.0 other.requires.p_bound.1 other.if-plan-q.false (holds taken.disjoint.ensures taken.if-disjoint.true)
+    ∙ disturb-other c.requires.ready _ _ _ c.requires.p_bound.0 c.requires.p_bound.1 c.if-plan-q.false (holds c.disjoint.ensures c.if-disjoint.true)
 
 pub returns-else-disjoint : goal.returns-else-disjoint
 returns-else-disjoint c =
-    let other = c in
-    into-off _ _ _ _ _ ∙ disturb-other other.requires.ready _ _ _ other.requires.p_bound.0 other.requires.p_bound.1 other.if-plan-q.false (fails c.disjoint.ensures c.if-disjoint.false)
+    into-off _ _ _ _ _
+    ∙ disturb-other c.requires.ready _ _ _ c.requires.p_bound.0 c.requires.p_bound.1 c.if-plan-q.false (fails c.disjoint.ensures c.if-disjoint.false)
 
 pub returns-then-plan-q : goal.returns-then-plan-q
 returns-then-plan-q c =

@@ -15,36 +15,25 @@ use Rattle.iterator.proofs.pass.entry_into.Goals as goal
 
 pub take_at-requires : goal.take_at-requires
 take_at-requires c =
-    let mutexes = c in
-    let variables = mutexes in
-    let lent = variables in
-    let points = lent in
-    let start = points in
-    rw (variables.number_at.ensures.value, points.number_at-points.ensures.value, mutexes.number_at-2.ensures.value) (
-      rows-have_room start.args.t.now _ start.requires.ready.passes (omega (arith, lent.take_at-arg-1.given.0.1)),
-      (start.requires.k_bound.0, variable-below start.requires.ready _ start.requires.k_bound.1),
+    rw (c.number_at.ensures.value, c.number_at-points.ensures.value, c.number_at-2.ensures.value) (
+    record {
+      room = rows-have_room c.args.t.now _ c.requires.ready.passes (omega (arith, c.take_at-arg-1.given.0.1));
+      k_lt_c = (c.requires.k_bound.0, variable-below c.requires.ready _ c.requires.k_bound.1);
+    }
     )
 
 pub returns : goal.returns
 returns c =
-    let mutexes = c in
-    let variables = mutexes in
-    let high = variables in
-    let low = high in
-    let there = low in
-    let start = there in
-    into-is start.requires.ready _ _ _ _
-    variables.number_at.ensures.value
-    (ap₂ (λ (x y : ℕ). x + y) low.number_at-points.ensures.value mutexes.number_at-2.ensures.value)
-    (read_back low.low-1.given ∙ ap (λ (x : ℕ). word_of start.args.entries.now (1 + x + start.args.q)) low.number_at-points.ensures.value)
-    (read_back high.high-1.given ∙ ap (λ (x : ℕ). word_of start.args.entries.now (1 + x + x + start.args.q)) low.number_at-points.ensures.value)
-    start.requires.k_bound.1
-    there.is_there-arg-1.given.0
-    (holds there.is_there.ensures there.if-not-is_there.false)
+    into-is c.requires.ready _ _ _ _
+    c.number_at.ensures.value
+    (ap₂ (λ (x y : ℕ). x + y) c.number_at-points.ensures.value c.number_at-2.ensures.value)
+    (read_back c.low-1.given ∙ ap (λ (x : ℕ). word_of c.args.entries.now (1 + x + c.args.q)) c.number_at-points.ensures.value)
+    (read_back c.high-1.given ∙ ap (λ (x : ℕ). word_of c.args.entries.now (1 + x + x + c.args.q)) c.number_at-points.ensures.value)
+    c.requires.k_bound.1
+    c.is_there-arg-1.given
+    (holds c.is_there.ensures c.if-not-is_there.false)
     c.take_at.ensures
 
 pub returns-then-not-is_there : goal.returns-then-not-is_there
 returns-then-not-is_there c =
-    let asked = c in
-    let start = asked in
-    sym (into-no-entry true _ _ _ _ _ (place_none 1 _ _ _ start.requires.k_bound.1 (fails asked.is_there.ensures c.if-not-is_there.true)))
+    sym (into-no-entry true _ _ _ _ _ (place_none 1 _ _ _ c.requires.k_bound.1 (fails c.is_there.ensures c.if-not-is_there.true)))

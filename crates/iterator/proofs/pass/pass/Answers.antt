@@ -12,52 +12,46 @@ use Rattle.iterator.proofs.pass.pass.Goals as goal
 
 pub visits-requires : goal.visits-requires
 visits-requires c =
-    let start = c in
-    let t = start.args.t.now in
-    let h = held_in start.args.plan.now in
+    let t = c.args.t.now in
+    let h = held_in c.args.plan.now in
     record {
-      passes = start.requires.passes;
-      planned = start.requires.planned;
-      filed = subst (Filed t h) (sym (cleared-begun t start.args.rows.now start.args.entries.now)) (begun-filed t h _ start.requires.filed);
+      passes = c.requires.passes;
+      planned = c.requires.planned;
+      filed = subst (Filed t h) (sym (cleared-begun t c.args.rows.now c.args.entries.now)) (begun-filed t h _ c.requires.filed);
     }
 
 pub rest_visits-requires : goal.rest_visits-requires
 rest_visits-requires c =
-    let visited : let start = c in let t = start.args.t.now in let ts = start.args.ts.now in state_in t c.visits.new.1.1.1.0 c.visits.new.1.1.1.1.0 ≡ fold_below (visit t ts (held_in start.args.plan.now)) (begun (state_in t start.args.rows.now start.args.entries.now)) (sizes_of t).points =
-        let start = c in
-        let t = start.args.t.now in
-        c.visits.ensures
-        ∙ ap (λ (s : State). fold_below (visit t start.args.ts.now (held_in start.args.plan.now)) s (sizes_of t).points)
-        (cleared-begun t start.args.rows.now start.args.entries.now) in
-    let start = c in
-    let t = start.args.t.now in
-    let ts = start.args.ts.now in
-    let h = held_in start.args.plan.now in
+    let a = c.args in
+    let t = a.t.now in
+    let ts = a.ts.now in
+    let h = held_in a.plan.now in
+    let before = state_in t a.rows.now a.entries.now in
+    let visited : state_in t c.visits.new.rows c.visits.new.entries ≡ fold_below (visit t ts h) (begun before) (sizes_of t).points =
+    c.visits.ensures ∙ ap (λ (s : State). fold_below (visit t ts h) s (sizes_of t).points) (cleared-begun t a.rows.now a.entries.now) in
     record {
-      passes = start.requires.passes;
-      planned = start.requires.planned;
-      filed = subst (Filed t h) (sym visited) (visits-filed t ts h (sizes_of t).points _ (begun-filed t h _ start.requires.filed));
+      passes = c.requires.passes;
+      planned = c.requires.planned;
+      filed = subst (Filed t h) (sym visited) (visits-filed t ts h (sizes_of t).points _ (begun-filed t h _ c.requires.filed));
     }
 
 pub returns : goal.returns
 unfolding pass_of
 returns c =
-    let visited : let start = c in let t = start.args.t.now in let ts = start.args.ts.now in state_in t c.visits.new.1.1.1.0 c.visits.new.1.1.1.1.0 ≡ fold_below (visit t ts (held_in start.args.plan.now)) (begun (state_in t start.args.rows.now start.args.entries.now)) (sizes_of t).points =
-        let start = c in
-        let t = start.args.t.now in
-        c.visits.ensures
-        ∙ ap (λ (s : State). fold_below (visit t start.args.ts.now (held_in start.args.plan.now)) s (sizes_of t).points)
-        (cleared-begun t start.args.rows.now start.args.entries.now) in
-    let passed : let start = c in let t = start.args.t.now in state_in t c.rest_visits.new.1.1.1.0 c.visits.new.1.1.1.1.0 ≡ pass_of t start.args.ts.now (held_in start.args.plan.now) (state_in t start.args.rows.now start.args.entries.now) =
-        let visits = c in
-        let start = visits in
-        let t = start.args.t.now in
-        c.rest_visits.ensures
-        ∙ ap (λ (s : State). fold_below (rest_visit t start.args.ts.now (held_in start.args.plan.now)) s (sizes_of t).mutexes) visited in
-    let start = c in
-    let t = start.args.t.now in
-    let h = held_in start.args.plan.now in record { entries_after = passed; ready = record {
-        passes = start.requires.passes;
-        planned = start.requires.planned;
-        filed = subst (Filed t h) (sym passed) (pass-filed t start.args.ts.now h _ start.requires.filed);
-      } }
+    let a = c.args in
+    let t = a.t.now in
+    let ts = a.ts.now in
+    let h = held_in a.plan.now in
+    let before = state_in t a.rows.now a.entries.now in
+    let visited : state_in t c.visits.new.rows c.visits.new.entries ≡ fold_below (visit t ts h) (begun before) (sizes_of t).points =
+    c.visits.ensures ∙ ap (λ (s : State). fold_below (visit t ts h) s (sizes_of t).points) (cleared-begun t a.rows.now a.entries.now) in
+    let passed : state_in t c.rest_visits.new.rows c.visits.new.entries ≡ pass_of t ts h before =
+    c.rest_visits.ensures ∙ ap (λ (s : State). fold_below (rest_visit t ts h) s (sizes_of t).mutexes) visited in
+    record {
+      entries_after = passed;
+      ready = record {
+        passes = c.requires.passes;
+        planned = c.requires.planned;
+        filed = subst (Filed t h) (sym passed) (pass-filed t ts h _ c.requires.filed);
+      };
+    }

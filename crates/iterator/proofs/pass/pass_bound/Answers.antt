@@ -13,49 +13,65 @@ intervals-few p n m hp hn hm = omega (arith, mul-le-mul_right {m = p} {n = 256} 
 moves-few : (l e : ℕ) → l ≤ 32 → e ≤ 4480 → 2 * (l + 1) * e ≤ 295680
 moves-few l e hl he = omega (arith, mul-le-mul_right {m = 2 * (l + 1)} {n = 66} e (omega arith))
 
-module _ (c : tie.After-number-at3) where
-  abbrev start : tie.Start
-  start = c.before.before.before
-
-  abbrev intervals_of : ℕ
-  intervals_of =
-      c.before.before.number_at.result * c.before.number-at2.result + c.number-at3.result * c.before.number-at2.result
-      + c.before.before.number_at.result
-
-  intervals : intervals_of ≤ 4480
-  intervals =
-      let passes = start.pre.0 in
-      intervals-few c.before.before.number_at.result c.before.number-at2.result c.number-at3.result
-      (omega (arith, c.before.before.number_at.ensures.0, passes.points.high))
-      (omega (arith, c.before.number-at2.ensures.0, passes.variables.high))
-      (omega (arith, c.number-at3.ensures.0, passes.mutexes.high))
-
-  moves : 2 * (length start.args.ts.now + 1) * intervals_of ≤ 295680
-  moves = moves-few (length start.args.ts.now) intervals_of start.pre.1 intervals
-
 pub overflow_mul-intervals : goal.overflow_mul-intervals
 overflow_mul-intervals c =
-    omega (arith, intervals c)
+    let passes = c.requires.passes in
+    let few =
+    intervals-few c.number_at-points.result c.number_at-variables.result c.number_at-mutexes.result
+    (omega (arith, c.number_at-points.ensures.value, passes.points.high))
+    (omega (arith, c.number_at-variables.ensures.value, passes.variables.high))
+    (omega (arith, c.number_at-mutexes.ensures.value, passes.mutexes.high)) in
+    omega (arith, few)
 
 pub overflow_mul-intervals-2 : goal.overflow_mul-intervals-2
 overflow_mul-intervals-2 c =
-    omega (arith, intervals c)
+    let passes = c.requires.passes in
+    let few =
+    intervals-few c.number_at-points.result c.number_at-variables.result c.number_at-mutexes.result
+    (omega (arith, c.number_at-points.ensures.value, passes.points.high))
+    (omega (arith, c.number_at-variables.ensures.value, passes.variables.high))
+    (omega (arith, c.number_at-mutexes.ensures.value, passes.mutexes.high)) in
+    omega (arith, few)
 
 pub overflow_add-intervals : goal.overflow_add-intervals
 overflow_add-intervals c =
-    omega (arith, intervals c)
+    let passes = c.requires.passes in
+    let few =
+    intervals-few c.number_at-points.result c.number_at-variables.result c.number_at-mutexes.result
+    (omega (arith, c.number_at-points.ensures.value, passes.points.high))
+    (omega (arith, c.number_at-variables.ensures.value, passes.variables.high))
+    (omega (arith, c.number_at-mutexes.ensures.value, passes.mutexes.high)) in
+    omega (arith, few)
 
 pub overflow_add-intervals-2 : goal.overflow_add-intervals-2
 overflow_add-intervals-2 c =
-    omega (arith, intervals c)
+    let passes = c.requires.passes in
+    let few =
+    intervals-few c.number_at-points.result c.number_at-variables.result c.number_at-mutexes.result
+    (omega (arith, c.number_at-points.ensures.value, passes.points.high))
+    (omega (arith, c.number_at-variables.ensures.value, passes.variables.high))
+    (omega (arith, c.number_at-mutexes.ensures.value, passes.mutexes.high)) in
+    omega (arith, few)
 
 pub overflow_mul-result-3 : goal.overflow_mul-result-3
 overflow_mul-result-3 c =
-    omega (arith, moves c)
+    let passes = c.requires.passes in
+    let few =
+    intervals-few c.number_at-points.result c.number_at-variables.result c.number_at-mutexes.result
+    (omega (arith, c.number_at-points.ensures.value, passes.points.high))
+    (omega (arith, c.number_at-variables.ensures.value, passes.variables.high))
+    (omega (arith, c.number_at-mutexes.ensures.value, passes.mutexes.high)) in
+    omega (arith, few, moves-few (length c.args.ts.now) _ c.requires.ts_len_bound few)
 
 pub overflow_add-result-3 : goal.overflow_add-result-3
 overflow_add-result-3 c =
-    omega (arith, moves c, intervals c)
+    let passes = c.requires.passes in
+    let few =
+    intervals-few c.number_at-points.result c.number_at-variables.result c.number_at-mutexes.result
+    (omega (arith, c.number_at-points.ensures.value, passes.points.high))
+    (omega (arith, c.number_at-variables.ensures.value, passes.variables.high))
+    (omega (arith, c.number_at-mutexes.ensures.value, passes.mutexes.high)) in
+    omega (arith, few, moves-few (length c.args.ts.now) _ c.requires.ts_len_bound few)
 
 pub returns : goal.returns
 returns c =

@@ -1,6 +1,5 @@
 -- `iterator::pass::passes` meets its contract: what is left of `made_from` after some passes is what there is to be made, and the loop ends where it does.
 -- Assumes nothing.
-use Prim.Native.Nat.{◌-◌}
 use mathlib.Core.Path.{◌≡◌, sym, ap₂, ◌∙◌}
 use mathlib.Core.Bool.{Bool, ◌||◌}
 use native.Mathlib.Omega.{arith}
@@ -13,29 +12,23 @@ use Rattle.iterator.proofs.pass.passes.Goals as goal
 
 pub returns-then-not-is_moved : goal.returns-then-not-is_moved
 returns-then-not-is_moved c =
-    let moved : let first = c in let passed = first in let start = passed in first.is_moved.result || c.is_moved-in-loop-made.result ≡ moved_of (state_in start.args.t.now passed.pass.new.1.1.1.0 passed.pass.new.1.1.1.1.0) =
-        let first = c in
-        let passed = first in
-        let start = passed in
-        ap₂ (λ (a b : Bool). a || b) first.is_moved.ensures c.is_moved-in-loop-made.ensures
-        ∙ sym (moved-is start.args.t.now passed.pass.new.1.1.1.0 passed.pass.new.1.1.1.1.0) in
-    let passed = c in
-    let turn = passed in
-    let loop = turn in record { result_after = made-last loop.loop-made.invariant.0 (rw (← loop.pass_bound-bound.ensures) turn.loop-made-test.true) passed.pass.ensures.entries_after (fails moved c.if-not-is_moved.true); ready_2 = passed.pass.ensures.ready }
+    let moved : c.is_moved.result || c.is_moved-in-loop-made.result ≡ moved_of (state_in c.args.t.now c.pass.new.rows c.pass.new.entries) =
+    ap₂ (λ (a b : Bool). a || b) c.is_moved.ensures c.is_moved-in-loop-made.ensures
+    ∙ sym (moved-is c.args.t.now c.pass.new.rows c.pass.new.entries) in
+    record {
+      result_after = made-last c.loop-made.invariant.0 (rw (← c.pass_bound-bound.ensures) c.loop-made-test.true) c.pass.ensures.entries_after
+          (fails moved c.if-not-is_moved.true);
+      ready_2 = c.pass.ensures.ready;
+    }
 
 pub loop-made-preserved : goal.loop-made-preserved
 loop-made-preserved c =
-    let moved : let first = c in let passed = first in let start = passed in first.is_moved.result || c.is_moved-in-loop-made.result ≡ moved_of (state_in start.args.t.now passed.pass.new.1.1.1.0 passed.pass.new.1.1.1.1.0) =
-        let first = c in
-        let passed = first in
-        let start = passed in
-        ap₂ (λ (a b : Bool). a || b) first.is_moved.ensures c.is_moved-in-loop-made.ensures
-        ∙ sym (moved-is start.args.t.now passed.pass.new.1.1.1.0 passed.pass.new.1.1.1.1.0) in
-    let passed = c in
-    let turn = passed in
-    let loop = turn in (
-      makes loop.loop-made.invariant.0 (rw (← loop.pass_bound-bound.ensures) turn.loop-made-test.true) passed.pass.ensures.entries_after (holds moved c.if-not-is_moved.false),
-      passed.pass.ensures.ready,
+    let moved : c.is_moved.result || c.is_moved-in-loop-made.result ≡ moved_of (state_in c.args.t.now c.pass.new.rows c.pass.new.entries) =
+    ap₂ (λ (a b : Bool). a || b) c.is_moved.ensures c.is_moved-in-loop-made.ensures
+    ∙ sym (moved-is c.args.t.now c.pass.new.rows c.pass.new.entries) in (
+      makes c.loop-made.invariant.0 (rw (← c.pass_bound-bound.ensures) c.loop-made-test.true) c.pass.ensures.entries_after
+          (holds moved c.if-not-is_moved.false),
+      c.pass.ensures.ready,
     )
 
 pub pass_bound-bound-requires : goal.pass_bound-bound-requires

@@ -10,7 +10,8 @@ use Rattle.iterator.proofs.pass.passes.Given as goal
 
 abbrev pub invariant-loop-made : goal.invariant-loop-made
 invariant-loop-made l =
-    Making (pass_of l.t l.ts (held_in l.plan)) (pass_bound l.t l.ts) (state_in l.t l.initial.rows l.initial.entries) (state_in l.t l.rows l.entries) l.made × Ready l.t l.plan l.rows l.entries
+    Making (pass_of l.t l.ts (held_in l.plan)) (pass_bound l.t l.ts) (state_in l.t l.initial.rows l.initial.entries) (state_in l.t l.rows l.entries) l.made
+    × Ready l.t l.plan l.rows l.entries
 
 abbrev pub decreases-loop-made : goal.decreases-loop-made
 decreases-loop-made l = l.bound - l.made

@@ -1,6 +1,5 @@
 -- `iterator::pass::rest_visit` meets its contract: the loop goes over the places that the plan lists, and entries stand nowhere else.
 -- Assumes nothing.
-use Prim.Native.Nat.{◌-◌}
 use mathlib.Core.Path.{sym, ◌∙◌}
 use native.Mathlib.Omega.{arith}
 use Rattle.iterator.specs.Plan.{held_in}
@@ -11,23 +10,27 @@ use Rattle.iterator.proofs.pass.rest_visit.Goals as goal
 
 pub unguarded-requires : goal.unguarded-requires
 unguarded-requires c =
-    let here : let start = c in Slot start.args.t.now start.args.plan.now c.loop-i.i =
-        slot_at c.requires.ready _ c.loop-i-test.true in
-    let turn = c in
-    record { ready = record { passes = turn.requires.ready.passes; planned = turn.requires.ready.planned; filed = record { elsewhere = turn.requires.ready.filed.elsewhere } }; m_bound = (turn.requires.m_bound, here.below) }
+    let here : Slot c.args.t.now c.args.plan.now c.loop-i.i =
+    slot_at c.requires.ready _ c.loop-i-test.true in
+    record {
+      ready = record {
+        passes = c.requires.ready.passes;
+        planned = c.requires.ready.planned;
+        filed = record { elsewhere = c.requires.ready.filed.elsewhere };
+      };
+      m_bound = (c.requires.m_bound, here.below);
+    }
 
 pub loop-i-preserved : goal.loop-i-preserved
 loop-i-preserved c =
-    let here : let start = c in Slot start.args.t.now start.args.plan.now c.loop-i.i =
-        slot_at c.requires.ready _ c.loop-i-test.true in
-    let turn = c in
-    fold_next turn.loop-i.invariant here.within (rw here.is at c.unguarded.ensures)
+    let here : Slot c.args.t.now c.args.plan.now c.loop-i.i =
+    slot_at c.requires.ready _ c.loop-i-test.true in
+    fold_next c.loop-i.invariant here.within (rw here.is at c.unguarded.ensures)
 
 pub returns : goal.returns
 returns c =
-    let start = c in
-    fold_end c.loop-i.invariant (rw (← start.requires.ready.planned.count) c.loop-i-test.false)
-    ∙ sym (rest-slots start.args.t.now start.args.ts.now (held_in start.args.plan.now) start.args.m _ start.requires.ready.filed)
+    fold_end c.loop-i.invariant (rw (← c.requires.ready.planned.count) c.loop-i-test.false)
+    ∙ sym (rest-slots c.args.t.now c.args.ts.now (held_in c.args.plan.now) c.args.m _ c.requires.ready.filed)
 
 pub loop-i-init : goal.loop-i-init
 loop-i-init c =
@@ -35,26 +38,26 @@ loop-i-init c =
 
 pub overflow_add-i : goal.overflow_add-i
 overflow_add-i c =
-    let here : let start = c in Slot start.args.t.now start.args.plan.now c.loop-i.i =
-        slot_at c.requires.ready _ c.loop-i-test.true in
+    let here : Slot c.args.t.now c.args.plan.now c.loop-i.i =
+    slot_at c.requires.ready _ c.loop-i-test.true in
     omega (arith, here.few)
 
 pub offset_bounds-plan-i : goal.offset_bounds-plan-i
 offset_bounds-plan-i c =
-    let here : let start = c in Slot start.args.t.now start.args.plan.now c.loop-i.i =
-        slot_at c.requires.ready _ c.loop-i-test.true in
+    let here : Slot c.args.t.now c.args.plan.now c.loop-i.i =
+    slot_at c.requires.ready _ c.loop-i-test.true in
     omega (arith, here.few)
 
 pub bounds-plan-i : goal.bounds-plan-i
 bounds-plan-i c =
-    let here : let start = c in Slot start.args.t.now start.args.plan.now c.loop-i.i =
-        slot_at c.requires.ready _ c.loop-i-test.true in
+    let here : Slot c.args.t.now c.args.plan.now c.loop-i.i =
+    slot_at c.requires.ready _ c.loop-i-test.true in
     omega (arith, here.few)
 
 pub overflow_add-i-in-loop-i : goal.overflow_add-i-in-loop-i
 overflow_add-i-in-loop-i c =
-    let here : let start = c in Slot start.args.t.now start.args.plan.now c.loop-i.i =
-        slot_at c.requires.ready _ c.loop-i-test.true in
+    let here : Slot c.args.t.now c.args.plan.now c.loop-i.i =
+    slot_at c.requires.ready _ c.loop-i-test.true in
     omega (arith, here.few)
 
 pub loop-i-smaller : goal.loop-i-smaller

@@ -1,20 +1,19 @@
 -- `iterator::pass::rest_visits` meets its contract: the loop is the fold over the mutexes, in which no entry changes.
 -- Assumes nothing.
-use Prim.Native.Nat.{◌-◌}
 use native.Mathlib.Omega.{arith}
 use Rattle.iterator.proofs.FoldLaws.{fold_start, fold_next, fold_end}
 use Rattle.iterator.proofs.pass.rest_visits.Goals as goal
 
 pub rest_visit-requires : goal.rest_visit-requires
 rest_visit-requires c =
-    let turn = c in
-    let start = turn in record { ready = record { passes = start.requires.passes; planned = start.requires.planned; filed = record { elsewhere = start.requires.filed.elsewhere } }; m_bound = rw (← turn.number_at-mutexes.ensures.value) turn.loop-m-test.true }
+    record {
+      ready = record { passes = c.requires.passes; planned = c.requires.planned; filed = record { elsewhere = c.requires.filed.elsewhere } };
+      m_bound = rw (← c.number_at-mutexes.ensures.value) c.loop-m-test.true;
+    }
 
 pub loop-m-preserved : goal.loop-m-preserved
 loop-m-preserved c =
-    let turn = c in
-    let loop = turn in
-    fold_next loop.loop-m.invariant (rw (← loop.number_at-mutexes.ensures.value) turn.loop-m-test.true) c.rest_visit.ensures
+    fold_next c.loop-m.invariant (rw (← c.number_at-mutexes.ensures.value) c.loop-m-test.true) c.rest_visit.ensures
 
 pub loop-m-init : goal.loop-m-init
 loop-m-init c =

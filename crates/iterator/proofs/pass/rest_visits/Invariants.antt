@@ -9,7 +9,8 @@ use Rattle.iterator.proofs.FoldLaws.{Folded}
 use Rattle.iterator.proofs.pass.rest_visits.Given as goal
 
 abbrev pub invariant-loop-m : goal.invariant-loop-m
-invariant-loop-m l = Folded (rest_visit l.t l.ts (held_in l.plan)) (state_in l.t l.initial.rows l.entries) (sizes_of l.t).mutexes l.m (state_in l.t l.rows l.entries)
+invariant-loop-m l =
+    Folded (rest_visit l.t l.ts (held_in l.plan)) (state_in l.t l.initial.rows l.entries) (sizes_of l.t).mutexes l.m (state_in l.t l.rows l.entries)
 
 abbrev pub decreases-loop-m : goal.decreases-loop-m
 decreases-loop-m l = l.mutexes - l.m

@@ -11,13 +11,10 @@ use Rattle.iterator.proofs.pass.unguarded.Goals as goal
 
 pub returns-then-disjoint : goal.returns-then-disjoint
 returns-then-disjoint c =
-    let points = c in
-    let taken = points in
-    let start = taken in
-    let s = state_in start.args.t.now start.args.rows.now start.args.entries.now in
+    let s = state_in c.args.t.now c.args.rows.now c.args.entries.now in
     c.entry_into.ensures
-    ∙ ap (λ (x : ℕ). entry_into true start.args.t.now start.args.ts.now s (x + start.args.m) start.args.q) points.number_at.ensures.value
-    ∙ unguarded-is start.requires.ready _ _ _ start.requires.m_bound.0 start.requires.m_bound.1 (holds taken.disjoint.ensures taken.if-disjoint.true)
+    ∙ ap (λ (x : ℕ). entry_into true c.args.t.now c.args.ts.now s (x + c.args.m) c.args.q) c.number_at.ensures.value
+    ∙ unguarded-is c.requires.ready _ _ _ c.requires.m_bound.0 c.requires.m_bound.1 (holds c.disjoint.ensures c.if-disjoint.true)
 
 pub returns-else-disjoint : goal.returns-else-disjoint
 returns-else-disjoint c =

@@ -16,32 +16,23 @@ use Rattle.iterator.proofs.pass.visit.Goals as goal
 
 pub returns-then-not-is_there : goal.returns-then-not-is_there
 returns-then-not-is_there c =
-    let asked = c in
-    let start = asked in
-    let t = start.args.t.now in
-    let here : start.args.p < (sizes_of t).points + (sizes_of t).mutexes = omega (arith, start.requires.p_bound) in
-    sym (visit-unreached t start.args.ts.now (held_in start.args.plan.now) _ _ (place_none _ _ _ _ here (fails asked.is_there.ensures c.if-not-is_there.true)))
+    let t = c.args.t.now in
+    let here : c.args.p < (sizes_of t).points + (sizes_of t).mutexes = omega (arith, c.requires.p_bound) in
+    sym (visit-unreached t c.args.ts.now (held_in c.args.plan.now) _ _ (place_none _ _ _ _ here (fails c.is_there.ensures c.if-not-is_there.true)))
 
 pub leave-requires : goal.leave-requires
 leave-requires c =
-    let disturbed = c in
-    let reached = disturbed in
-    let asked = reached in
-    let start = asked in
-    let t = start.args.t.now in
-    let here : start.args.p < (sizes_of t).points + (sizes_of t).mutexes = omega (arith, start.requires.p_bound) in (
-      (start.requires.ready.passes, start.requires.ready.planned),
-      (
-        start.requires.p_bound,
-        sym (place-there _ _ _ _ here) ∙ ap (λ (s : State). is_some (place_in s.rows start.args.p)) disturbed.disturb_all.ensures
-            ∙ disturb-keeps t start.args.ts.now (held_in start.args.plan.now) start.args.p _ (place-there _ _ _ _ here ∙ holds asked.is_there.ensures reached.if-not-is_there.false),
-      ),
-    )
+    let t = c.args.t.now in
+    let here : c.args.p < (sizes_of t).points + (sizes_of t).mutexes = omega (arith, c.requires.p_bound) in
+    record {
+      passes = (c.requires.ready.passes, c.requires.ready.planned);
+      p_bound = c.requires.p_bound;
+      p_value = sym (place-there _ _ _ _ here) ∙ ap (λ (s : State). is_some (place_in s.rows c.args.p)) c.disturb_all.ensures
+          ∙ disturb-keeps t c.args.ts.now (held_in c.args.plan.now) c.args.p _ (place-there _ _ _ _ here ∙ holds c.is_there.ensures c.if-not-is_there.false);
+    }
 
 pub returns : goal.returns
 unfolding visit
 returns c =
-    let disturbed = c in
-    let start = disturbed in
     c.leave.ensures
-    ∙ ap (λ (s : State). leave start.args.t.now start.args.ts.now (held_in start.args.plan.now) s start.args.p) disturbed.disturb_all.ensures
+    ∙ ap (λ (s : State). leave c.args.t.now c.args.ts.now (held_in c.args.plan.now) s c.args.p) c.disturb_all.ensures

@@ -9,7 +9,8 @@ use Rattle.iterator.proofs.FoldLaws.{Folded}
 use Rattle.iterator.proofs.pass.visits.Given as goal
 
 abbrev pub invariant-loop-p : goal.invariant-loop-p
-invariant-loop-p l = Folded (visit l.t l.ts (held_in l.plan)) (state_in l.t l.initial.rows l.initial.entries) (sizes_of l.t).points l.p (state_in l.t l.rows l.entries)
+invariant-loop-p l =
+    Folded (visit l.t l.ts (held_in l.plan)) (state_in l.t l.initial.rows l.initial.entries) (sizes_of l.t).points l.p (state_in l.t l.rows l.entries)
 
 abbrev pub decreases-loop-p : goal.decreases-loop-p
 decreases-loop-p l = l.points - l.p

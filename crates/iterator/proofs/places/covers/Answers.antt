@@ -1,6 +1,5 @@
 -- `iterator::places::covers` meets its contract: the loop is left at the first interval that an end must move for, or past the last.
 -- Assumes nothing.
-use Prim.Native.Nat.{◌-◌}
 use mathlib.Core.Path.{◌≡◌, sym, ◌∙◌}
 use native.Mathlib.Omega.{arith}
 use borrow.Author.Rules.{rules}
@@ -17,41 +16,31 @@ use Rattle.iterator.proofs.places.covers.Goals as goal
 pub returns-then-not-holds : goal.returns-then-not-holds
 unfolding covers_of
 returns-then-not-holds c =
-    let tested : let loop = c in let a = loop.before.args in c.holds.result ≡ holds_at (row_of (part_of a.ws.now a.a a.n) (part_of a.ws.now a.b a.n)) (row_of a.lows.now a.highs.now) loop.loop.v =
-        let second = c in
-        let first = second in
-        let high = first in
-        let low = high in
-        let turn = c in
-        let args = turn.args in
-        let below = turn.loop-v-test.taken in
-        holds-is
-        (read_back low.holds-arg-1.given ∙ sym (part-word args.ws.now args.a args.n turn.loop-v.v below))
-        (read_back high.holds-arg-in-loop-v-1.given ∙ sym (part-word args.ws.now args.b args.n turn.loop-v.v below))
-        (read_back first.word.type_inv ∙ first.word.ensures)
-        (read_back second.word-in-loop-v.type_inv ∙ second.word-in-loop-v.ensures)
-        c.holds.ensures in
-    let turn = c in
-    sym (fails-at _ _ _ turn.loop-v-test.taken (fails tested c.if-not-holds.true))
+    let a = c.args in
+    let tested : c.holds.result ≡ holds_at (row_of (part_of a.ws.now a.a a.n) (part_of a.ws.now a.b a.n)) (row_of a.lows.now a.highs.now) c.loop-v.v =
+    let args = c.args in
+    let below = c.loop-v-test.true in
+    holds-is
+    (read_back c.holds-arg-1.given ∙ sym (part-word args.ws.now args.a args.n c.loop-v.v below))
+    (read_back c.holds-arg-in-loop-v-1.given ∙ sym (part-word args.ws.now args.b args.n c.loop-v.v below))
+    (read_back c.word.type_inv ∙ c.word.ensures)
+    (read_back c.word-in-loop-v.type_inv ∙ c.word-in-loop-v.ensures)
+    c.holds.ensures in
+    sym (fails-at _ _ _ c.loop-v-test.true (fails tested c.if-not-holds.true))
 
 pub loop-v-preserved : goal.loop-v-preserved
 loop-v-preserved c =
-    let tested : let loop = c in let a = loop.before.args in c.holds.result ≡ holds_at (row_of (part_of a.ws.now a.a a.n) (part_of a.ws.now a.b a.n)) (row_of a.lows.now a.highs.now) loop.loop.v =
-        let second = c in
-        let first = second in
-        let high = first in
-        let low = high in
-        let turn = c in
-        let args = turn.args in
-        let below = turn.loop-v-test.taken in
-        holds-is
-        (read_back low.holds-arg-1.given ∙ sym (part-word args.ws.now args.a args.n turn.loop-v.v below))
-        (read_back high.holds-arg-in-loop-v-1.given ∙ sym (part-word args.ws.now args.b args.n turn.loop-v.v below))
-        (read_back first.word.type_inv ∙ first.word.ensures)
-        (read_back second.word-in-loop-v.type_inv ∙ second.word-in-loop-v.ensures)
-        c.holds.ensures in
-    let turn = c in
-    checks turn.loop-v.inv turn.loop-v-test.taken (holds tested c.if-not-holds.false)
+    let a = c.args in
+    let tested : c.holds.result ≡ holds_at (row_of (part_of a.ws.now a.a a.n) (part_of a.ws.now a.b a.n)) (row_of a.lows.now a.highs.now) c.loop-v.v =
+    let args = c.args in
+    let below = c.loop-v-test.true in
+    holds-is
+    (read_back c.holds-arg-1.given ∙ sym (part-word args.ws.now args.a args.n c.loop-v.v below))
+    (read_back c.holds-arg-in-loop-v-1.given ∙ sym (part-word args.ws.now args.b args.n c.loop-v.v below))
+    (read_back c.word.type_inv ∙ c.word.ensures)
+    (read_back c.word-in-loop-v.type_inv ∙ c.word-in-loop-v.ensures)
+    c.holds.ensures in
+    checks c.loop-v.invariant c.loop-v-test.true (holds tested c.if-not-holds.false)
 
 pub loop-v-init : goal.loop-v-init
 unfolding covers_of
@@ -66,7 +55,7 @@ overflow_add-a c =
 pub offset_bounds-ws-a : goal.offset_bounds-ws-a
 unfolding covers_of
 offset_bounds-ws-a c =
-    let start = c in omega (arith, start.well-formed.0.1)
+    omega (arith, c.well_formed.0.1)
 
 pub bounds-ws-a : goal.bounds-ws-a
 unfolding covers_of
@@ -81,7 +70,7 @@ overflow_add-b c =
 pub offset_bounds-ws-b : goal.offset_bounds-ws-b
 unfolding covers_of
 offset_bounds-ws-b c =
-    let start = c in omega (arith, start.well-formed.0.1)
+    omega (arith, c.well_formed.0.1)
 
 pub bounds-ws-b : goal.bounds-ws-b
 unfolding covers_of

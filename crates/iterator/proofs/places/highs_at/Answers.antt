@@ -7,6 +7,5 @@ use Rattle.iterator.proofs.places.highs_at.Goals as goal
 
 pub returns : goal.returns
 returns c =
-    let from = c in
-    let args = from.args in
-    c.part.ensures ∙ ap (λ (i : ℕ). part_of args.ws.now i args.n) from.highs_from.ensures
+    let args = c.args in
+    c.part.ensures ∙ ap (λ (i : ℕ). part_of args.ws.now i args.n) c.highs_from.ensures

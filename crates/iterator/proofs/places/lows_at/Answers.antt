@@ -7,6 +7,5 @@ use Rattle.iterator.proofs.places.lows_at.Goals as goal
 
 pub returns : goal.returns
 returns c =
-    let from = c in
-    let args = from.args in
-    c.part.ensures ∙ ap (λ (i : ℕ). part_of args.ws.now i args.n) from.lows_from.ensures
+    let args = c.args in
+    c.part.ensures ∙ ap (λ (i : ℕ). part_of args.ws.now i args.n) c.lows_from.ensures

@@ -11,19 +11,15 @@ use Rattle.iterator.proofs.places.move_ends.Goals as goal
 
 pub returns : goal.returns
 returns c =
-    let high = c in
-    let low-to = high in
-    let low = low-to in
-    let start = low in
-    let ts = start.args.ts.now in
-    let ws = start.args.ws.now in
-    ap₂ (λ (x y : ℤ). set (set ws start.args.i x) start.args.j y)
-    (through-bits (low_to ts) (ok32 _ low.low_to-arg-1.given) start.ranges.low (ok32 _ low-to.low_to-a.type_inv) low-to.low_to-a.ensures)
-    (through-bits (high_to ts) (ok32 _ high.high_to-arg-1.given) start.ranges.high (ok32 _ c.high_to-b.type_inv) c.high_to-b.ensures)
+    let ts = c.args.ts.now in
+    let ws = c.args.ws.now in
+    ap₂ (λ (x y : ℤ). set (set ws c.args.i x) c.args.j y)
+    (through-bits (low_to ts) (ok32 _ c.low_to-arg-1.given) c.ranges.low (ok32 _ c.low_to-a.type_inv) c.low_to-a.ensures)
+    (through-bits (high_to ts) (ok32 _ c.high_to-arg-1.given) c.ranges.high (ok32 _ c.high_to-b.type_inv) c.high_to-b.ensures)
 
 pub offset_bounds-ws-i : goal.offset_bounds-ws-i
 offset_bounds-ws-i c =
-    omega (arith, c.well-formed.1.0.1)
+    omega (arith, c.well_formed.1.0.1)
 
 pub slice_copy_out-low_to : goal.slice_copy_out-low_to
 slice_copy_out-low_to c =
@@ -31,7 +27,7 @@ slice_copy_out-low_to c =
 
 pub offset_bounds-ws-j : goal.offset_bounds-ws-j
 offset_bounds-ws-j c =
-    omega (arith, c.well-formed.1.0.1)
+    omega (arith, c.well_formed.1.0.1)
 
 pub slice_copy_out-high_to : goal.slice_copy_out-high_to
 slice_copy_out-high_to c =
@@ -39,7 +35,7 @@ slice_copy_out-high_to c =
 
 pub offset_bounds-ws-i-2 : goal.offset_bounds-ws-i-2
 offset_bounds-ws-i-2 c =
-    omega (arith, c.well-formed.1.0.1)
+    omega (arith, c.well_formed.1.0.1)
 
 pub bounds-ws-i : goal.bounds-ws-i
 bounds-ws-i c =
@@ -47,7 +43,7 @@ bounds-ws-i c =
 
 pub offset_bounds-ws-j-2 : goal.offset_bounds-ws-j-2
 offset_bounds-ws-j-2 c =
-    omega (arith, c.well-formed.1.0.1)
+    omega (arith, c.well_formed.1.0.1)
 
 pub bounds-ws-j : goal.bounds-ws-j
 bounds-ws-j c =

@@ -1,6 +1,5 @@
 -- `iterator::places::put` meets its contract: the loop writes two ends a turn.
 -- Assumes nothing.
-use Prim.Native.Nat.{◌-◌}
 use native.Mathlib.Omega.{arith}
 use lib.ListN.{length-set}
 use Rattle.interval.proofs.MachineArithmetic.{handed32}
@@ -9,9 +8,7 @@ use Rattle.iterator.proofs.places.put.Goals as goal
 
 pub loop-v-preserved : goal.loop-v-preserved
 loop-v-preserved c =
-    let first = c in
-    let turn = first in
-    writes turn.loop-v.invariant turn.loop-v-test.true (handed32 first.word.ensures first.word.type_inv) (handed32 c.word-in-loop-v.ensures c.word-in-loop-v.type_inv)
+    writes c.loop-v.invariant c.loop-v-test.true (handed32 c.word.ensures c.word.type_inv) (handed32 c.word-in-loop-v.ensures c.word-in-loop-v.type_inv)
 
 pub loop-v-init : goal.loop-v-init
 loop-v-init c =
@@ -23,7 +20,7 @@ overflow_add-ws c =
 
 pub offset_bounds-ws-a : goal.offset_bounds-ws-a
 offset_bounds-ws-a c =
-    let start = c in omega (arith, start.well-formed.0.1)
+    omega (arith, c.well_formed.0.1)
 
 pub bounds-ws-a : goal.bounds-ws-a
 bounds-ws-a c =
@@ -35,7 +32,7 @@ overflow_add-b c =
 
 pub offset_bounds-ws-b : goal.offset_bounds-ws-b
 offset_bounds-ws-b c =
-    let start = c in omega (arith, start.well-formed.0.1)
+    omega (arith, c.well_formed.0.1)
 
 pub bounds-ws-b : goal.bounds-ws-b
 bounds-ws-b c =

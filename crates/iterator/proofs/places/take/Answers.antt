@@ -12,46 +12,29 @@ use Rattle.iterator.proofs.places.take.Goals as goal
 pub returns-then-not-is_there : goal.returns-then-not-is_there
 returns-then-not-is_there c =
     let row : Row =
-        row_of c.args.lows.now c.args.highs.now in
-    let put = c in
-    let branch = put in
-    let test = branch in
-    let found = test in
-    let start = test in
-    taken-new _ _ start.args.ts.now _ _ row start.requires.room start.requires.k_lt_c found.lows_from-a.ensures found.highs_from-b.ensures
-    (fails test.is_there.ensures branch.if-not-is_there.true) put.put.auto.0 put.put.ensures
+    row_of c.args.lows.now c.args.highs.now in
+    taken-new _ _ c.args.ts.now _ _ row c.requires.room c.requires.k_lt_c c.lows_from-a.ensures c.highs_from-b.ensures
+    (fails c.is_there.ensures c.if-not-is_there.true) c.put.auto.ws c.put.ensures
 
 pub returns-then-covers : goal.returns-then-covers
 returns-then-covers c =
     let row : Row =
-        row_of c.args.lows.now c.args.highs.now in
-    let covers = c in
-    let branch = covers in
-    let test = branch in
-    let found = test in
-    let start = test in
-    taken-held _ _ start.args.ts.now _ _ row start.requires.room start.requires.k_lt_c found.lows_from-a.ensures found.highs_from-b.ensures
-    (holds test.is_there.ensures branch.if-not-is_there.false) (holds covers.covers.ensures c.if-covers.true)
+    row_of c.args.lows.now c.args.highs.now in
+    taken-held _ _ c.args.ts.now _ _ row c.requires.room c.requires.k_lt_c c.lows_from-a.ensures c.highs_from-b.ensures
+    (holds c.is_there.ensures c.if-not-is_there.false) (holds c.covers.ensures c.if-covers.true)
 
 pub returns : goal.returns
 returns c =
     let row : Row =
-        row_of c.args.lows.now c.args.highs.now in
-    let widen = c in
-    let way = widen in
-    let covers = way in
-    let branch = covers in
-    let test = branch in
-    let found = test in
-    let start = test in
-    taken-moved _ _ start.args.ts.now _ _ row start.requires.room start.requires.k_lt_c found.lows_from-a.ensures found.highs_from-b.ensures
-    (holds test.is_there.ensures branch.if-not-is_there.false) (fails covers.covers.ensures way.if-covers.false)
-    widen.widen.auto.1.0 widen.widen.ensures
+    row_of c.args.lows.now c.args.highs.now in
+    taken-moved _ _ c.args.ts.now _ _ row c.requires.room c.requires.k_lt_c c.lows_from-a.ensures c.highs_from-b.ensures
+    (holds c.is_there.ensures c.if-not-is_there.false) (fails c.covers.ensures c.if-covers.false)
+    c.widen.auto.ws c.widen.ensures
 
 pub put-requires : goal.put-requires
 put-requires c =
     let lies : let args = c.args in (c.lows_from-a.result + args.n ≤ c.highs_from-b.result) × (c.highs_from-b.result + args.n ≤ length args.ws.now) =
-        rows_lie _ _ _ _ c.requires.room c.requires.k_lt_c c.lows_from-a.ensures c.highs_from-b.ensures in
+    rows_lie _ _ _ _ c.requires.room c.requires.k_lt_c c.lows_from-a.ensures c.highs_from-b.ensures in
     lies
 
 pub slice_set_of-ws-then-not-is_there : goal.slice_set_of-ws-then-not-is_there
@@ -61,11 +44,11 @@ slice_set_of-ws-then-not-is_there c =
 pub covers-requires : goal.covers-requires
 covers-requires c =
     let lies : let args = c.args in (c.lows_from-a.result + args.n ≤ c.highs_from-b.result) × (c.highs_from-b.result + args.n ≤ length args.ws.now) =
-        rows_lie _ _ _ _ c.requires.room c.requires.k_lt_c c.lows_from-a.ensures c.highs_from-b.ensures in
+    rows_lie _ _ _ _ c.requires.room c.requires.k_lt_c c.lows_from-a.ensures c.highs_from-b.ensures in
     lies
 
 pub widen-requires : goal.widen-requires
 widen-requires c =
     let lies : let args = c.args in (c.lows_from-a.result + args.n ≤ c.highs_from-b.result) × (c.highs_from-b.result + args.n ≤ length args.ws.now) =
-        rows_lie _ _ _ _ c.requires.room c.requires.k_lt_c c.lows_from-a.ensures c.highs_from-b.ensures in
+    rows_lie _ _ _ _ c.requires.room c.requires.k_lt_c c.lows_from-a.ensures c.highs_from-b.ensures in
     lies

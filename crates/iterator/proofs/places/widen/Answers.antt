@@ -1,6 +1,5 @@
 -- `iterator::places::widen` meets its contract: each turn writes the two ends of one variable, over ends that are still as they were.
 -- Assumes nothing.
-use Prim.Native.Nat.{◌-◌}
 use mathlib.Core.Path.{sym, ap₂, ◌∙◌}
 use native.Mathlib.Omega.{arith}
 use Rattle.words.proofs.PartLaws.{part-word}
@@ -11,21 +10,17 @@ use Rattle.iterator.proofs.places.widen.Goals as goal
 
 pub loop-v-preserved : goal.loop-v-preserved
 loop-v-preserved c =
-    let moved = c in
-    let second = moved in
-    let first = second in
-    let turn = first in
-    let args = turn.args in
-    let s = turn.loop-v.invariant in
-    let v = turn.loop-v.v in
-    let below = turn.loop-v-test.true in
+    let args = c.args in
+    let s = c.loop-v.invariant in
+    let v = c.loop-v.v in
+    let below = c.loop-v-test.true in
     let ws = args.ws.now in
     let low = low-still s below ∙ sym (part-word ws args.a args.n v below) in
     let high = high-still s below ∙ sym (part-word ws args.b args.n v below) in
-    rw moved.move_ends.ensures
+    rw c.move_ends.ensures
     (writes s below
-    (ap₂ (low_to args.ts.now) low (handed32 first.word.ensures first.word.type_inv))
-    (ap₂ (high_to args.ts.now) high (handed32 second.word-in-loop-v.ensures second.word-in-loop-v.type_inv)))
+    (ap₂ (low_to args.ts.now) low (handed32 c.word.ensures c.word.type_inv))
+    (ap₂ (high_to args.ts.now) high (handed32 c.word-in-loop-v.ensures c.word-in-loop-v.type_inv)))
 
 pub loop-v-init : goal.loop-v-init
 loop-v-init c =
@@ -37,7 +32,7 @@ overflow_add-a c =
 
 pub overflow_add-b : goal.overflow_add-b
 overflow_add-b c =
-    let start = c in omega (arith, start.well-formed.1.0.0)
+    omega (arith, c.well_formed.1.0.0)
 
 pub move_ends-requires : goal.move_ends-requires
 move_ends-requires c =

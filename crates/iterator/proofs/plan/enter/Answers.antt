@@ -14,53 +14,42 @@ use Rattle.iterator.proofs.plan.enter.Goals as goal
 
 pub returns-then-not-is_assign : goal.returns-then-not-is_assign
 returns-then-not-is_assign c =
-    let stands : let start = c in c.point_at-x.result ≡ point_of (points_of start.args.t.now) start.args.p =
-        rw c.point_words.ensures at c.point_at-x.ensures in
-    let flag = c in
-    let variable = flag in
-    let task = variable in
-    let held = task in
-    let point = held in
-    let a = point.args in
+    let stands : c.point_at-x.result ≡ point_of (points_of c.args.t.now) c.args.p =
+    rw c.point_words.ensures at c.point_at-x.ensures in
+    let a = c.args in
     let t = a.t.now in
-    rw (held.held_of-s.ensures.value, task.task_of-u.ensures, variable.written-v.ensures, stands)
+    rw (c.held_of-s.ensures.value, c.task_of-u.ensures, c.written-v.ensures, stands)
     (entered-other t (held_in t (marks_in (mark_count t) a.marks.now)) (book_of a.plan.now a.index.now a.count) a.p
-    (rw stands at (fails flag.is_assign.ensures c.if-not-is_assign.true)))
+    (rw stands at (fails c.is_assign.ensures c.if-not-is_assign.true)))
 
 pub head_of-requires : goal.head_of-requires
 head_of-requires c =
-    let stands : let start = c in c.point_at-x.result ≡ point_of (points_of start.args.t.now) start.args.p =
-        rw c.point_words.ensures at c.point_at-x.ensures in
-    let variable = c in
-    let task = variable in
-    let held = task in
-    let point = held in
-    let start = point in
-    let t = start.args.t.now in record { passes = start.requires.passes; u_bound = (
-        rw task.task_of-u.ensures (start.requires.passes.owned start.args.p start.requires.p_bound.0).task,
-        held.held_of-s.ensures.upper_bound,
-        rw (variable.written-v.ensures, stands) (variable-below t start.requires.passes start.args.p start.requires.p_bound.0),
-      ) }
+    let stands : c.point_at-x.result ≡ point_of (points_of c.args.t.now) c.args.p =
+    rw c.point_words.ensures at c.point_at-x.ensures in
+    let t = c.args.t.now in
+    record {
+      passes = c.requires.passes;
+      u_bound = (
+        rw c.task_of-u.ensures (c.requires.passes.owned c.args.p c.requires.p_bound.0).task,
+        c.held_of-s.ensures.upper_bound,
+        rw (c.written-v.ensures, stands) (variable-below t c.requires.passes c.args.p c.requires.p_bound.0),
+      );
+    }
 
 pub file-requires : goal.file-requires
-file-requires c =
-    let start = c in
-    record { passes = omega (arith, start.requires.p_bound.0, start.requires.passes.points.high); p_bound = omega (arith, c.head_of.ensures.upper_bound, heads-few start.args.t.now start.requires.passes); p_bound_2 = start.requires.p_bound.1 }
+file-requires c = (
+  omega (arith, c.requires.p_bound.0, c.requires.passes.points.high),
+  omega (arith, c.head_of.ensures.upper_bound, heads-few c.args.t.now c.requires.passes),
+  c.requires.p_bound.1,
+)
 
 pub returns : goal.returns
 returns c =
-    let stands : let start = c in c.point_at-x.result ≡ point_of (points_of start.args.t.now) start.args.p =
-        rw c.point_words.ensures at c.point_at-x.ensures in
-    let head = c in
-    let test = head in
-    let flag = test in
-    let variable = flag in
-    let task = variable in
-    let held = task in
-    let point = held in
-    let a = point.args in
+    let stands : c.point_at-x.result ≡ point_of (points_of c.args.t.now) c.args.p =
+    rw c.point_words.ensures at c.point_at-x.ensures in
+    let a = c.args in
     let t = a.t.now in
     entered-assign t (held_in t (marks_in (mark_count t) a.marks.now)) (book_of a.plan.now a.index.now a.count) a.p
-    (book_of c.file.new.0 c.file.new.1.0 c.file.result)
-    (rw stands at (holds flag.is_assign.ensures test.if-not-is_assign.false))
-    (rw (head.head_of.ensures.value, held.held_of-s.ensures.value, task.task_of-u.ensures, variable.written-v.ensures, stands) at c.file.ensures)
+    (book_of c.file.new.plan c.file.new.index c.file.result)
+    (rw stands at (holds c.is_assign.ensures c.if-not-is_assign.false))
+    (rw (c.head_of.ensures.value, c.held_of-s.ensures.value, c.task_of-u.ensures, c.written-v.ensures, stands) at c.file.ensures)

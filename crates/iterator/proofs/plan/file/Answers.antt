@@ -7,14 +7,12 @@ use Rattle.iterator.proofs.plan.file.Goals as goal
 
 pub returns-then-first-ne0 : goal.returns-then-first-ne0
 returns-then-first-ne0 c =
-    let word = c in
-    let a = word.args in
-    rw word.wide-first.ensures
+    let a = c.args in
+    rw c.wide-first.ensures
     (file-later (get_or a.index.now a.c 0) (book_of a.plan.now a.index.now a.count) a.p a.c
-    (rw word.wide-first.ensures at c.if-first-ne0.true))
+    (rw c.wide-first.ensures at c.if-first-ne0.true))
 
 pub returns : goal.returns
 returns c =
-    let word = c in
-    let a = word.args in
-    file-first (get_or a.index.now a.c 0) (book_of a.plan.now a.index.now a.count) a.p a.c (sym word.wide-first.ensures ∙ c.if-first-ne0.false)
+    let a = c.args in
+    file-first (get_or a.index.now a.c 0) (book_of a.plan.now a.index.now a.count) a.p a.c (sym c.wide-first.ensures ∙ c.if-first-ne0.false)

@@ -12,31 +12,29 @@ use Rattle.iterator.proofs.plan.head_of.Goals as goal
 pub overflow_mul-result : goal.overflow_mul-result
 overflow_mul-result c =
     let front : c.args.u * sets_of c.args.t.now + c.args.s < 2048 =
-        front-few c.args.t.now c.requires.passes c.args.u c.args.s c.requires.u_bound.0 c.requires.u_bound.1 in
+    front-few c.args.t.now c.requires.passes c.args.u c.args.s c.requires.u_bound.0 c.requires.u_bound.1 in
     rw c.sets.ensures.value (omega (arith, front))
 
 pub overflow_add-result : goal.overflow_add-result
 overflow_add-result c =
     let front : c.args.u * sets_of c.args.t.now + c.args.s < 2048 =
-        front-few c.args.t.now c.requires.passes c.args.u c.args.s c.requires.u_bound.0 c.requires.u_bound.1 in
+    front-few c.args.t.now c.requires.passes c.args.u c.args.s c.requires.u_bound.0 c.requires.u_bound.1 in
     rw c.sets.ensures.value (omega (arith, front))
 
 pub overflow_mul-result-2 : goal.overflow_mul-result-2
 overflow_mul-result-2 c =
     let whole : code_of c.args.t.now c.args.u c.args.s c.args.v < code_count c.args.t.now =
-        code_below c.args.t.now c.args.u c.args.s c.args.v c.requires.u_bound.0 c.requires.u_bound.1 c.requires.u_bound.2 in
-    let start = c in
-    rw (c.sets.ensures.value, c.number_at.ensures.value) (omega (arith, whole, heads-few start.args.t.now start.requires.passes))
+    code_below c.args.t.now c.args.u c.args.s c.args.v c.requires.u_bound.0 c.requires.u_bound.1 c.requires.u_bound.2 in
+    rw (c.sets.ensures.value, c.number_at.ensures.value) (omega (arith, whole, heads-few c.args.t.now c.requires.passes))
 
 pub overflow_add-result-2 : goal.overflow_add-result-2
 overflow_add-result-2 c =
     let whole : code_of c.args.t.now c.args.u c.args.s c.args.v < code_count c.args.t.now =
-        code_below c.args.t.now c.args.u c.args.s c.args.v c.requires.u_bound.0 c.requires.u_bound.1 c.requires.u_bound.2 in
-    let start = c in
-    rw (c.sets.ensures.value, c.number_at.ensures.value) (omega (arith, whole, heads-few start.args.t.now start.requires.passes))
+    code_below c.args.t.now c.args.u c.args.s c.args.v c.requires.u_bound.0 c.requires.u_bound.1 c.requires.u_bound.2 in
+    rw (c.sets.ensures.value, c.number_at.ensures.value) (omega (arith, whole, heads-few c.args.t.now c.requires.passes))
 
 pub returns : goal.returns
 returns c =
     let whole : code_of c.args.t.now c.args.u c.args.s c.args.v < code_count c.args.t.now =
-        code_below c.args.t.now c.args.u c.args.s c.args.v c.requires.u_bound.0 c.requires.u_bound.1 c.requires.u_bound.2 in
-    rw (c.sets.ensures.value, c.number_at.ensures.value) (refl, whole)
+    code_below c.args.t.now c.args.u c.args.s c.args.v c.requires.u_bound.0 c.requires.u_bound.1 c.requires.u_bound.2 in
+    rw (c.sets.ensures.value, c.number_at.ensures.value) (record { value = refl; upper_bound = whole })

@@ -1,19 +1,16 @@
 -- `iterator::propose::falls` meets its contract: each threshold is looked at, and the loop is left at the first that doesn't rise, or past the last.
 -- Assumes nothing.
-use Prim.Native.Nat.{◌-◌}
 use Rattle.words.proofs.Bools.{fails, holds}
 use Rattle.words.proofs.FirstLaws.{start, next, stop, done}
 use Rattle.iterator.proofs.propose.falls.Goals as goal
 
 pub returns-then-not-rises : goal.returns-then-not-rises
 returns-then-not-rises c =
-    let turn = c in
-    stop turn.loop-i.invariant turn.loop-i-test.true (fails c.rises.ensures c.if-not-rises.true)
+    stop c.loop-i.invariant c.loop-i-test.true (fails c.rises.ensures c.if-not-rises.true)
 
 pub loop-i-preserved : goal.loop-i-preserved
 loop-i-preserved c =
-    let turn = c in
-    next turn.loop-i.invariant turn.loop-i-test.true (holds c.rises.ensures c.if-not-rises.false)
+    next c.loop-i.invariant c.loop-i-test.true (holds c.rises.ensures c.if-not-rises.false)
 
 pub loop-i-init : goal.loop-i-init
 loop-i-init c =

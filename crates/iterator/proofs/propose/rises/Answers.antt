@@ -13,11 +13,10 @@ returns-then-i-eq0 c = rw c.if-i-eq0.true
 
 pub returns : goal.returns
 returns c =
-    let one = c in
-    let a = one.args in
+    let a = c.args in
     let ts = a.ts.now in
     rw (
-      rises-is ts a.i one.if-i-eq0.false,
-      read_back {z = word_of ts (a.i - 1)} one.result-1.given,
+      rises-is ts a.i c.if-i-eq0.false,
+      read_back {z = word_of ts (a.i - 1)} c.result-1.given,
       read_back {z = word_of ts a.i} c.result-2-1.given,
     ) refl

@@ -11,47 +11,39 @@ returns c = rw (c.number_at-points.ensures.value, c.number_at-mutexes.ensures.va
 pub overflow_mul-result-2 : goal.overflow_mul-result-2
 overflow_mul-result-2 c =
     let few : (c.number_at-points.result + c.number_at-mutexes.result) * c.number_at-variables.result ≤ 264 * 16 =
-        let mutexes = c in
-        let variables = mutexes in
-        let passes = variables.requires in
-        let places : c.number_at-points.result + mutexes.number_at-mutexes.result ≤ 264 =
-        omega (arith, c.number_at-points.ensures.value, mutexes.number_at-mutexes.ensures.value, passes.points.high, passes.mutexes.high) in
-        let slots : variables.number_at-variables.result ≤ 16 = omega (arith, variables.number_at-variables.ensures.value, passes.variables.high) in
-        mul-le-mul places slots in
+    let passes = c.requires in
+    let places : c.number_at-points.result + c.number_at-mutexes.result ≤ 264 =
+    omega (arith, c.number_at-points.ensures.value, c.number_at-mutexes.ensures.value, passes.points.high, passes.mutexes.high) in
+    let slots : c.number_at-variables.result ≤ 16 = omega (arith, c.number_at-variables.ensures.value, passes.variables.high) in
+    mul-le-mul places slots in
     omega (arith, few)
 
 pub overflow_add-result-4 : goal.overflow_add-result-4
 overflow_add-result-4 c =
     let few : (c.number_at-points.result + c.number_at-mutexes.result) * c.number_at-variables.result ≤ 264 * 16 =
-        let mutexes = c in
-        let variables = mutexes in
-        let passes = variables.requires in
-        let places : c.number_at-points.result + mutexes.number_at-mutexes.result ≤ 264 =
-        omega (arith, c.number_at-points.ensures.value, mutexes.number_at-mutexes.ensures.value, passes.points.high, passes.mutexes.high) in
-        let slots : variables.number_at-variables.result ≤ 16 = omega (arith, variables.number_at-variables.ensures.value, passes.variables.high) in
-        mul-le-mul places slots in
+    let passes = c.requires in
+    let places : c.number_at-points.result + c.number_at-mutexes.result ≤ 264 =
+    omega (arith, c.number_at-points.ensures.value, c.number_at-mutexes.ensures.value, passes.points.high, passes.mutexes.high) in
+    let slots : c.number_at-variables.result ≤ 16 = omega (arith, c.number_at-variables.ensures.value, passes.variables.high) in
+    mul-le-mul places slots in
     omega (arith, few, c.number_at-points.ensures.upper_bound)
 
 pub overflow_mul-result-3 : goal.overflow_mul-result-3
 overflow_mul-result-3 c =
     let few : (c.number_at-points.result + c.number_at-mutexes.result) * c.number_at-variables.result ≤ 264 * 16 =
-        let mutexes = c in
-        let variables = mutexes in
-        let passes = variables.requires in
-        let places : c.number_at-points.result + mutexes.number_at-mutexes.result ≤ 264 =
-        omega (arith, c.number_at-points.ensures.value, mutexes.number_at-mutexes.ensures.value, passes.points.high, passes.mutexes.high) in
-        let slots : variables.number_at-variables.result ≤ 16 = omega (arith, variables.number_at-variables.ensures.value, passes.variables.high) in
-        mul-le-mul places slots in
+    let passes = c.requires in
+    let places : c.number_at-points.result + c.number_at-mutexes.result ≤ 264 =
+    omega (arith, c.number_at-points.ensures.value, c.number_at-mutexes.ensures.value, passes.points.high, passes.mutexes.high) in
+    let slots : c.number_at-variables.result ≤ 16 = omega (arith, c.number_at-variables.ensures.value, passes.variables.high) in
+    mul-le-mul places slots in
     omega (arith, few, c.number_at-points.ensures.upper_bound)
 
 pub overflow_add-result-5 : goal.overflow_add-result-5
 overflow_add-result-5 c =
     let few : (c.number_at-points.result + c.number_at-mutexes.result) * c.number_at-variables.result ≤ 264 * 16 =
-        let mutexes = c in
-        let variables = mutexes in
-        let passes = variables.requires in
-        let places : c.number_at-points.result + mutexes.number_at-mutexes.result ≤ 264 =
-        omega (arith, c.number_at-points.ensures.value, mutexes.number_at-mutexes.ensures.value, passes.points.high, passes.mutexes.high) in
-        let slots : variables.number_at-variables.result ≤ 16 = omega (arith, variables.number_at-variables.ensures.value, passes.variables.high) in
-        mul-le-mul places slots in
+    let passes = c.requires in
+    let places : c.number_at-points.result + c.number_at-mutexes.result ≤ 264 =
+    omega (arith, c.number_at-points.ensures.value, c.number_at-mutexes.ensures.value, passes.points.high, passes.mutexes.high) in
+    let slots : c.number_at-variables.result ≤ 16 = omega (arith, c.number_at-variables.ensures.value, passes.variables.high) in
+    mul-le-mul places slots in
     omega (arith, few, c.number_at-points.ensures.upper_bound)

@@ -9,24 +9,18 @@ use Rattle.iterator.proofs.start.begin_at.Goals as goal
 
 pub take-requires : goal.take-requires
 take-requires c =
-    let points = c in
-    let start = points in
-    rw (points.number_at-n.ensures.value, points.number_at.ensures.value, c.number_at-then-begins.ensures.value)
-    (rows-have_room start.args.t.now start.args.rows.now start.requires.passes (omega (arith, c.take-arg-1.given.0.1)), start.requires.k_bound)
+    rw (c.number_at-n.ensures.value, c.number_at.ensures.value, c.number_at-then-begins.ensures.value)
+    (record { room = rows-have_room c.args.t.now c.args.rows.now c.requires.passes (omega (arith, c.take-arg-1.given.0.1)); k_lt_c = c.requires.k_bound })
 
 pub returns-then-begins : goal.returns-then-begins
 returns-then-begins c =
-    let points = c in
-    let values = points in
-    let start = values in
-    let t = start.args.t.now in
-    rw (sym values.begins.ensures ∙ values.if-begins.true)
-    (starts-taken t (starts_of t) (rows_in t start.args.rows.now) (rows_in t c.take.new.1.0) start.args.k start.requires.passes start.requires.k_value
-    (rw (points.number_at-n.ensures.value, points.number_at.ensures.value, c.number_at-then-begins.ensures.value, values.starts-values.ensures)
+    let t = c.args.t.now in
+    rw (sym c.begins.ensures ∙ c.if-begins.true)
+    (starts-taken t (starts_of t) (rows_in t c.args.rows.now) (rows_in t c.take.new.ws) c.args.k c.requires.passes c.requires.k_value
+    (rw (c.number_at-n.ensures.value, c.number_at.ensures.value, c.number_at-then-begins.ensures.value, c.starts-values.ensures)
     at c.take.ensures))
 
 pub returns-else-begins : goal.returns-else-begins
 returns-else-begins c =
-    let start = c in
-    let t = start.args.t.now in
-    rw (sym c.begins.ensures ∙ c.if-begins.false) (none_kept t (rows_in t start.args.rows.now) start.args.k start.requires.k_value)
+    let t = c.args.t.now in
+    rw (sym c.begins.ensures ∙ c.if-begins.false) (none_kept t (rows_in t c.args.rows.now) c.args.k c.requires.k_value)

@@ -1,5 +1,4 @@
 -- `iterator::walk::held_of` meets its contract: no set before the loop's is brought to the point. Assumes nothing.
-use Prim.Native.Nat.{◌-◌}
 use native.Mathlib.Omega.{arith}
 use lib.Pow.{pow_pos}
 use Rattle.words.proofs.FirstLaws.{start}
@@ -10,37 +9,36 @@ use Rattle.iterator.proofs.walk.held_of.Goals as goal
 pub overflow_mul-from : goal.overflow_mul-from
 overflow_mul-from c =
     let here : Here c.args.t.now c.sets-n.result c.args.p =
-        record { passes = c.requires.passes; sets = c.sets-n.ensures.value; point = c.requires.p_bound } in
+    record { passes = c.requires.passes; sets = c.sets-n.ensures.value; point = c.requires.p_bound } in
     omega (arith, from-below here)
 
 pub bounds-marks-from : goal.bounds-marks-from
 bounds-marks-from c =
     let here : Here c.args.t.now c.sets-n.result c.args.p =
-        record { passes = c.requires.passes; sets = c.sets-n.ensures.value; point = c.requires.p_bound } in
-    let sets = c in
+    record { passes = c.requires.passes; sets = c.sets-n.ensures.value; point = c.requires.p_bound } in
     set_below here _ c.loop-s-test.true
 
 pub returns-then-marks-from-eq1 : goal.returns-then-marks-from-eq1
 returns-then-marks-from-eq1 c =
     let here : Here c.args.t.now c.sets-n.result c.args.p =
-        record { passes = c.requires.passes; sets = c.sets-n.ensures.value; point = c.requires.p_bound } in
-    let turn = c in
-    let sets = turn in
-    let below = turn.loop-s-test.true in record { value = held_found here _ _ below turn.loop-s.invariant c.if-marks-from-eq1.true; upper_bound = rw sets.sets-n.ensures.value at below }
+    record { passes = c.requires.passes; sets = c.sets-n.ensures.value; point = c.requires.p_bound } in
+    let below = c.loop-s-test.true in
+    record {
+      value = held_found here _ _ below c.loop-s.invariant c.if-marks-from-eq1.true;
+      upper_bound = rw c.sets-n.ensures.value at below;
+    }
 
 pub loop-s-preserved : goal.loop-s-preserved
 loop-s-preserved c =
     let here : Here c.args.t.now c.sets-n.result c.args.p =
-        record { passes = c.requires.passes; sets = c.sets-n.ensures.value; point = c.requires.p_bound } in
-    let turn = c in
-    let sets = turn in
-    held_next here _ _ turn.loop-s-test.true turn.loop-s.invariant c.if-marks-from-eq1.false
+    record { passes = c.requires.passes; sets = c.sets-n.ensures.value; point = c.requires.p_bound } in
+    held_next here _ _ c.loop-s-test.true c.loop-s.invariant c.if-marks-from-eq1.false
 
 pub returns : goal.returns
 returns c =
     let here : Here c.args.t.now c.sets-n.result c.args.p =
-        record { passes = c.requires.passes; sets = c.sets-n.ensures.value; point = c.requires.p_bound } in
-    let sets = c in record { value = held_none here _ _ c.loop-s.invariant c.loop-s-test.false; upper_bound = pow_pos _ }
+    record { passes = c.requires.passes; sets = c.sets-n.ensures.value; point = c.requires.p_bound } in
+    record { value = held_none here _ _ c.loop-s.invariant c.loop-s-test.false; upper_bound = pow_pos _ }
 
 pub loop-s-init : goal.loop-s-init
 loop-s-init c =
@@ -48,7 +46,9 @@ loop-s-init c =
 
 pub overflow_add-from : goal.overflow_add-from
 overflow_add-from c =
-    omega (arith, bounds-marks-from c)
+    let here : Here c.args.t.now c.sets-n.result c.args.p =
+    record { passes = c.requires.passes; sets = c.sets-n.ensures.value; point = c.requires.p_bound } in
+    omega (arith, set_below here _ c.loop-s-test.true)
 
 pub overflow_add-s : goal.overflow_add-s
 overflow_add-s c =

@@ -1,5 +1,5 @@
 -- `iterator::walk::joined` meets its contract: to each point before the loop's walks bring one set. Assumes nothing.
-use Prim.Native.Nat.{◌-◌, ◌<◌}
+use Prim.Native.Nat.{◌<◌}
 use native.Mathlib.Omega.{arith}
 use Rattle.words.proofs.Bools.{fails, holds}
 use Rattle.words.proofs.FirstLaws.{start, next, stop, done}
@@ -13,14 +13,14 @@ loop-p-init c =
 pub one_set-requires : goal.one_set-requires
 one_set-requires c =
     let is-point : c.loop-p.p < (sizes_of c.args.t.now).points =
-        rw c.number_at-points.ensures.value at c.loop-p-test.true in
+    rw c.number_at-points.ensures.value at c.loop-p-test.true in
     record { passes = c.requires; p_bound = is-point }
 
 pub returns-then-not-one_set : goal.returns-then-not-one_set
 returns-then-not-one_set c =
     let is-point : c.loop-p.p < (sizes_of c.args.t.now).points =
-        rw c.number_at-points.ensures.value at c.loop-p-test.true in
-    let turn = c in stop turn.loop-p.invariant is-point (fails c.one_set.ensures c.if-not-one_set.true)
+    rw c.number_at-points.ensures.value at c.loop-p-test.true in
+    stop c.loop-p.invariant is-point (fails c.one_set.ensures c.if-not-one_set.true)
 
 pub overflow_add-p : goal.overflow_add-p
 overflow_add-p c =
@@ -29,8 +29,8 @@ overflow_add-p c =
 pub loop-p-preserved : goal.loop-p-preserved
 loop-p-preserved c =
     let is-point : c.loop-p.p < (sizes_of c.args.t.now).points =
-        rw c.number_at-points.ensures.value at c.loop-p-test.true in
-    let turn = c in next turn.loop-p.invariant is-point (holds c.one_set.ensures c.if-not-one_set.false)
+    rw c.number_at-points.ensures.value at c.loop-p-test.true in
+    next c.loop-p.invariant is-point (holds c.one_set.ensures c.if-not-one_set.false)
 
 pub returns : goal.returns
 returns c =

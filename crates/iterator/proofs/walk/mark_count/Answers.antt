@@ -6,10 +6,8 @@ use Rattle.iterator.proofs.walk.mark_count.Goals as goal
 
 pub overflow_mul-result : goal.overflow_mul-result
 overflow_mul-result c =
-    let start = c in
-    rw (c.number_at.ensures.value, c.sets.ensures.value) (omega (arith, marks-few start.args.t.now start.requires))
+    rw (c.number_at.ensures.value, c.sets.ensures.value) (omega (arith, marks-few c.args.t.now c.requires))
 
 pub returns : goal.returns
 returns c =
-    let start = c in
-    rw (c.number_at.ensures.value, c.sets.ensures.value) (refl, marks-few start.args.t.now start.requires)
+    rw (c.number_at.ensures.value, c.sets.ensures.value) (record { value = refl; upper_bound = marks-few c.args.t.now c.requires })

@@ -1,19 +1,15 @@
 -- `iterator::walk::round` meets its contract: the places that are passed have been gone on from. Assumes nothing.
-use Prim.Native.Nat.{◌-◌}
 use native.Mathlib.Omega.{arith}
 use Rattle.iterator.proofs.RoundLaws.{go, goes, gone}
 use Rattle.iterator.proofs.walk.round.Goals as goal
 
 pub walk_on-new-requires : goal.walk_on-new-requires
 walk_on-new-requires c =
-    let turn = c in
-    let all = turn in
-    (all.requires, (all.sets-n.ensures.value, omega (arith, turn.loop-i-test.true, all.mark_count-count.ensures.value)))
+    record { passes = c.requires; n_value = c.sets-n.ensures.value; i_bound = omega (arith, c.loop-i-test.true, c.mark_count-count.ensures.value) }
 
 pub loop-i-preserved : goal.loop-i-preserved
 loop-i-preserved c =
-    let turn = c in
-    goes _ turn.loop-i.invariant (omega (arith, turn.loop-i-test.true, turn.mark_count-count.ensures.value)) c.walk_on-new.ensures
+    goes _ c.loop-i.invariant (omega (arith, c.loop-i-test.true, c.mark_count-count.ensures.value)) c.walk_on-new.ensures
 
 pub returns : goal.returns
 returns c = gone _ c.loop-i.invariant (omega (arith, c.loop-i-test.false, c.mark_count-count.ensures.value))

@@ -7,4 +7,4 @@ use Rattle.iterator.proofs.walk.sets.Goals as goal
 pub returns : goal.returns
 returns c =
     let few = c.requires.mutexes.high in
-    rw (c.number_at.ensures.value, shl_is _ few) (refl, few-small _ few)
+    rw (c.number_at.ensures.value, shl_is _ few) (record { value = refl; upper_bound = few-small _ few })

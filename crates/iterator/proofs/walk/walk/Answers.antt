@@ -1,5 +1,4 @@
 -- `iterator::walk::walk` meets its contract: after a round that makes no new mark, further rounds would make none. Assumes nothing.
-use Prim.Native.Nat.{◌-◌}
 use native.Mathlib.Omega.{arith}
 use Rattle.iterator.proofs.FoldLaws.{fold-from, fold_next}
 use Rattle.iterator.proofs.RoundLaws.{last-round, all-rounds}
@@ -7,8 +6,7 @@ use Rattle.iterator.proofs.walk.walk.Goals as goal
 
 pub loop-k-preserved : goal.loop-k-preserved
 loop-k-preserved c =
-    let turn = c in
-    fold_next turn.loop-k.invariant (omega (arith, turn.loop-k-test.true, turn.mark_count-count.ensures.value)) c.round.ensures.marks
+    fold_next c.loop-k.invariant (omega (arith, c.loop-k-test.true, c.mark_count-count.ensures.value)) c.round.ensures.marks
 
 pub first_marks-requires : goal.first_marks-requires
 first_marks-requires c =

@@ -13,8 +13,7 @@ go_on-requires c = mark-from _ _ _ c.requires.n_value c.requires.i_bound c.requi
 
 pub returns-then-marks-i-eq1 : goal.returns-then-marks-i-eq1
 returns-then-marks-i-eq1 c =
-    let marked = c in
-    walk-marked _ _ _ marked.requires.n_value marked.requires.i_bound _ marked.if-marks-i-eq1.true c.go_on.ensures
+    walk-marked _ _ _ c.requires.n_value c.requires.i_bound _ c.if-marks-i-eq1.true c.go_on.ensures
 
 pub returns : goal.returns
 returns c = walk-unmarked _ _ _ c.requires.n_value c.requires.i_bound _ c.if-marks-i-eq1.false
@@ -22,11 +21,11 @@ returns c = walk-unmarked _ _ _ c.requires.n_value c.requires.i_bound _ c.if-mar
 pub nonzero_div-i : goal.nonzero_div-i
 nonzero_div-i c =
     let some-sets : 0 < c.args.n =
-        set-pos c.args.t.now _ c.requires.n_value in
+    set-pos c.args.t.now _ c.requires.n_value in
     some-sets
 
 pub nonzero_rem-i : goal.nonzero_rem-i
 nonzero_rem-i c =
     let some-sets : 0 < c.args.n =
-        set-pos c.args.t.now _ c.requires.n_value in
+    set-pos c.args.t.now _ c.requires.n_value in
     some-sets

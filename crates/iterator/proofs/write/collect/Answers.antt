@@ -1,5 +1,4 @@
 -- `iterator::write::collect` meets its contract: the heads passed whose entry is there stand at the front. Assumes nothing.
-use Prim.Native.Nat.{◌-◌}
 use native.Mathlib.Omega.{arith}
 use Rattle.proposer.specs.Fold.{those}
 use Rattle.iterator.proofs.PutLaws.{begin, turn-room, turn, end, kept}
@@ -12,12 +11,14 @@ loop-c-init c = begin (omega (arith, c.requires.heads_len))
 pub note-count-requires : goal.note-count-requires
 note-count-requires c =
     let below = c.loop-c-test.true in
-    let loop = c in
-    let p = loop.loop-c.invariant in
-    record { c_bound = (omega (arith, loop.requires.n_bound), loop.requires.n_bound.1 loop.loop-c.c below); c_bound_2 = omega (arith, turn-room p below, kept p, loop.requires.heads_len) }
+    let p = c.loop-c.invariant in
+    record {
+      c_bound = (omega (arith, c.requires.n_bound), c.requires.n_bound.1 c.loop-c.c below);
+      c_bound_2 = omega (arith, turn-room p below, kept p, c.requires.heads_len);
+    }
 
 pub loop-c-preserved : goal.loop-c-preserved
-loop-c-preserved c = let inside = c in turn inside.loop-c.invariant inside.loop-c-test.true c.note-count.ensures
+loop-c-preserved c = turn c.loop-c.invariant c.loop-c-test.true c.note-count.ensures
 
 pub returns : goal.returns
 unfolding those

@@ -18,16 +18,15 @@ pub returns : goal.returns
 unfolding held_if
 returns c =
     let set_is : let a = c.args in held_in a.plan.now a.p ≡ get_or a.plan.now a.p 0 =
-        let start = c in held-is start.args.plan.now start.args.p start.requires.0 in
+    held-is c.args.plan.now c.args.p c.requires.0 in
     let set-small : let a = c.args in get_or a.plan.now a.p 0 < 256 =
-        omega (arith, set_is, c.requires.1) in
-    let other = c in
-    rw (sym other.is_there.ensures ∙ other.if-not-is_there.false, set_is) (to_z_pos w32 _ (omega (arith, set-small)))
+    omega (arith, set_is, c.requires.1) in
+    rw (sym c.is_there.ensures ∙ c.if-not-is_there.false, set_is) (to_z_pos w32 _ (omega (arith, set-small)))
 
 pub overflow_cast-result : goal.overflow_cast-result
 overflow_cast-result c =
     let set_is : let a = c.args in held_in a.plan.now a.p ≡ get_or a.plan.now a.p 0 =
-        let start = c in held-is start.args.plan.now start.args.p start.requires.0 in
+    held-is c.args.plan.now c.args.p c.requires.0 in
     let set-small : let a = c.args in get_or a.plan.now a.p 0 < 256 =
-        omega (arith, set_is, c.requires.1) in
+    omega (arith, set_is, c.requires.1) in
     record { sfits = omega (arith, set-small) }

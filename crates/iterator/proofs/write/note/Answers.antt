@@ -16,23 +16,23 @@ pub returns-then-not-is_there : goal.returns-then-not-is_there
 unfolding those_if
 returns-then-not-is_there c =
     let there : let a = c.args in is_filled a.index.now a.entries.now a.c ≡ c.is_there.result =
-        filled_at _ _ c.if-slot-eq0.false ∙ sym c.is_there.ensures in
+    filled_at _ _ c.if-slot-eq0.false ∙ sym c.is_there.ensures in
     rw (there ∙ c.if-not-is_there.true) (puts_none _ _)
 
 pub bounds-heads-count : goal.bounds-heads-count
 unfolding those_if
 bounds-heads-count c =
     let there : let a = c.args in is_filled a.index.now a.entries.now a.c ≡ c.is_there.result =
-        filled_at _ _ c.if-slot-eq0.false ∙ sym c.is_there.ensures in
+    filled_at _ _ c.if-slot-eq0.false ∙ sym c.is_there.ensures in
     let filled : let a = c.args in is_filled a.index.now a.entries.now a.c ≡ true =
-        there ∙ c.if-not-is_there.false in
+    there ∙ c.if-not-is_there.false in
     let room = rw filled at c.requires.c_bound_2 in omega arith
 
 pub returns : goal.returns
 unfolding those_if
 returns c =
     let there : let a = c.args in is_filled a.index.now a.entries.now a.c ≡ c.is_there.result =
-        filled_at _ _ c.if-slot-eq0.false ∙ sym c.is_there.ensures in
+    filled_at _ _ c.if-slot-eq0.false ∙ sym c.is_there.ensures in
     let filled : let a = c.args in is_filled a.index.now a.entries.now a.c ≡ true =
-        there ∙ c.if-not-is_there.false in
+    there ∙ c.if-not-is_there.false in
     rw filled (puts_one _ _ _)

@@ -1,5 +1,5 @@
 -- `iterator::write::put` meets its contract: a word a turn. Assumes nothing.
-use Prim.Native.Nat.{◌+◌, ◌-◌, ◌≤◌}
+use Prim.Native.Nat.{◌+◌, ◌≤◌}
 use mathlib.Core.Path.{◌≡◌, subst}
 use mathlib.Core.List.{List}
 use native.Mathlib.Omega.{arith}
@@ -16,8 +16,7 @@ loop-i-init c = begin (rw (list-concat c.args.ws.now (pos 0)) c.requires)
 
 pub loop-i-preserved : goal.loop-i-preserved
 loop-i-preserved c =
-    let inside = c in
-    turn inside.loop-i.invariant inside.loop-i-test.true (rw (read_back c.out-1.given) (puts_one _ _ _))
+    turn c.loop-i.invariant c.loop-i-test.true (rw (read_back c.out-1.given) (puts_one _ _ _))
 
 pub returns : goal.returns
 returns c =
@@ -35,20 +34,20 @@ bounds-ws-i c =
 
 pub offset_bounds-out-next : goal.offset_bounds-out-next
 offset_bounds-out-next c =
-    let room : let loop = c in (loop.loop-i.next + 1 ≤ length loop.loop-i.out) × (length loop.loop-i.out ≡ length loop.args.out.now) =
-        let p = c.loop-i.invariant in (turn-room p c.loop-i-test.true, kept p) in
+    let room : (c.loop-i.next + 1 ≤ length c.loop-i.out) × (length c.loop-i.out ≡ length c.args.out.now) =
+    let p = c.loop-i.invariant in (turn-room p c.loop-i-test.true, kept p) in
     omega (arith, room)
 
 pub bounds-out-next : goal.bounds-out-next
 bounds-out-next c =
-    let room : let loop = c in (loop.loop-i.next + 1 ≤ length loop.loop-i.out) × (length loop.loop-i.out ≡ length loop.args.out.now) =
-        let p = c.loop-i.invariant in (turn-room p c.loop-i-test.true, kept p) in
+    let room : (c.loop-i.next + 1 ≤ length c.loop-i.out) × (length c.loop-i.out ≡ length c.args.out.now) =
+    let p = c.loop-i.invariant in (turn-room p c.loop-i-test.true, kept p) in
     omega (arith, room)
 
 pub overflow_add-next : goal.overflow_add-next
 overflow_add-next c =
-    let room : let loop = c in (loop.loop-i.next + 1 ≤ length loop.loop-i.out) × (length loop.loop-i.out ≡ length loop.args.out.now) =
-        let p = c.loop-i.invariant in (turn-room p c.loop-i-test.true, kept p) in
+    let room : (c.loop-i.next + 1 ≤ length c.loop-i.out) × (length c.loop-i.out ≡ length c.args.out.now) =
+    let p = c.loop-i.invariant in (turn-room p c.loop-i-test.true, kept p) in
     omega (arith, room)
 
 pub overflow_add-i : goal.overflow_add-i

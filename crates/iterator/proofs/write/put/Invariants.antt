@@ -7,7 +7,7 @@ use Rattle.iterator.proofs.PutLaws.{Putting}
 use Rattle.iterator.proofs.write.put.Given as goal
 
 abbrev pub invariant-loop-i : goal.invariant-loop-i
-invariant-loop-i l = Putting (λ l.i. word_of l.ws l.i ∷ []) l.initial.out l.at (length l.ws) l.i l.out l.next
+invariant-loop-i l = Putting (λ i. word_of l.ws i ∷ []) l.initial.out l.at (length l.ws) l.i l.out l.next
 
 abbrev pub decreases-loop-i : goal.decreases-loop-i
 decreases-loop-i l = length l.ws - l.i

@@ -1,19 +1,19 @@
 -- `iterator::write::put_heads` meets its contract: a head a turn. Assumes nothing.
-use Prim.Native.Nat.{◌-◌}
 use native.Mathlib.Omega.{arith}
 use Rattle.iterator.proofs.PutLaws.{begin, turn-room, turn, end, kept}
 use Rattle.iterator.proofs.write.put_heads.Goals as goal
 
 pub put_head-next-requires : goal.put_head-next-requires
 put_head-next-requires c =
-    let inside = c in
-    let below = inside.loop-i-test.true in
-    record { c_bound = (inside.requires.count_bound.1 inside.loop-i.i below, inside.requires.count_bound.2, inside.requires.count_bound.3); at_in_bounds = turn-room inside.loop-i.invariant below }
+    let below = c.loop-i-test.true in
+    record {
+      c_bound = (c.requires.count_bound.1 c.loop-i.i below, c.requires.count_bound.2, c.requires.count_bound.3);
+      at_in_bounds = turn-room c.loop-i.invariant below;
+    }
 
 pub loop-i-preserved : goal.loop-i-preserved
 loop-i-preserved c =
-    let inside = c in
-    turn inside.loop-i.invariant inside.loop-i-test.true c.put_head-next.ensures
+    turn c.loop-i.invariant c.loop-i-test.true c.put_head-next.ensures
 
 pub loop-i-init : goal.loop-i-init
 loop-i-init c =

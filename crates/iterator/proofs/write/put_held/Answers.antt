@@ -1,5 +1,5 @@
 -- `iterator::write::put_held` meets its contract: a word a turn. Assumes nothing.
-use Prim.Native.Nat.{◌+◌, ◌-◌, ◌≤◌}
+use Prim.Native.Nat.{◌+◌, ◌≤◌}
 use mathlib.Core.Path.{◌≡◌, ◌∙◌}
 use native.Mathlib.Omega.{arith}
 use lib.ListN.{length}
@@ -14,8 +14,7 @@ held_word-requires c =
 
 pub loop-p-preserved : goal.loop-p-preserved
 loop-p-preserved c =
-    let inside = c in
-    turn inside.loop-p.invariant inside.loop-p-test.true (rw (read_back c.held_word.type_inv ∙ c.held_word.ensures) (puts_one _ _ _))
+    turn c.loop-p.invariant c.loop-p-test.true (rw (read_back c.held_word.type_inv ∙ c.held_word.ensures) (puts_one _ _ _))
 
 pub loop-p-init : goal.loop-p-init
 loop-p-init c =
@@ -23,20 +22,20 @@ loop-p-init c =
 
 pub offset_bounds-out-next : goal.offset_bounds-out-next
 offset_bounds-out-next c =
-    let room : let loop = c in (loop.loop-p.next + 1 ≤ length loop.loop-p.out) × (length loop.loop-p.out ≡ length loop.args.out.now) =
-        let p = c.loop-p.invariant in (turn-room p c.loop-p-test.true, kept p) in
+    let room : (c.loop-p.next + 1 ≤ length c.loop-p.out) × (length c.loop-p.out ≡ length c.args.out.now) =
+    let p = c.loop-p.invariant in (turn-room p c.loop-p-test.true, kept p) in
     omega (arith, room)
 
 pub bounds-out-next : goal.bounds-out-next
 bounds-out-next c =
-    let room : let loop = c in (loop.loop-p.next + 1 ≤ length loop.loop-p.out) × (length loop.loop-p.out ≡ length loop.args.out.now) =
-        let p = c.loop-p.invariant in (turn-room p c.loop-p-test.true, kept p) in
+    let room : (c.loop-p.next + 1 ≤ length c.loop-p.out) × (length c.loop-p.out ≡ length c.args.out.now) =
+    let p = c.loop-p.invariant in (turn-room p c.loop-p-test.true, kept p) in
     omega (arith, room)
 
 pub overflow_add-next : goal.overflow_add-next
 overflow_add-next c =
-    let room : let loop = c in (loop.loop-p.next + 1 ≤ length loop.loop-p.out) × (length loop.loop-p.out ≡ length loop.args.out.now) =
-        let p = c.loop-p.invariant in (turn-room p c.loop-p-test.true, kept p) in
+    let room : (c.loop-p.next + 1 ≤ length c.loop-p.out) × (length c.loop-p.out ≡ length c.args.out.now) =
+    let p = c.loop-p.invariant in (turn-room p c.loop-p-test.true, kept p) in
     omega (arith, room)
 
 pub overflow_add-p : goal.overflow_add-p

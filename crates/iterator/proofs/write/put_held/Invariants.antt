@@ -8,7 +8,7 @@ use Rattle.iterator.proofs.PutLaws.{Putting}
 use Rattle.iterator.proofs.write.put_held.Given as goal
 
 abbrev pub invariant-loop-p : goal.invariant-loop-p
-invariant-loop-p l = Putting (λ l.p. held_if (is_there l.rows l.p) (held_in l.plan l.p) ∷ []) l.initial.out l.at l.points l.p l.out l.next
+invariant-loop-p l = Putting (λ p. held_if (is_there l.rows p) (held_in l.plan p) ∷ []) l.initial.out l.at l.points l.p l.out l.next
 
 abbrev pub decreases-loop-p : goal.decreases-loop-p
 decreases-loop-p l = l.points - l.p

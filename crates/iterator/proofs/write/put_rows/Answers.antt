@@ -1,5 +1,4 @@
 -- `iterator::write::put_rows` meets its contract: a row a turn. Assumes nothing.
-use Prim.Native.Nat.{◌-◌}
 use native.Mathlib.Omega.{arith}
 use Rattle.iterator.proofs.PutLaws.{begin, turn-room, turn, end, kept}
 use Rattle.iterator.proofs.write.put_rows.Goals as goal
@@ -7,13 +6,11 @@ use Rattle.iterator.proofs.write.put_rows.Goals as goal
 pub put_row-next-requires : goal.put_row-next-requires
 put_row-next-requires c =
     let below = c.loop-k-test.true in
-    let loop = c in
-    record { n_bound = (loop.requires.n_bound.0, loop.requires.n_bound.1, below); k_in_bounds = turn-room loop.loop-k.invariant below }
+    record { n_bound = (c.requires.n_bound.0, c.requires.n_bound.1, below); k_in_bounds = turn-room c.loop-k.invariant below }
 
 pub loop-k-preserved : goal.loop-k-preserved
 loop-k-preserved c =
-    let inside = c in
-    turn inside.loop-k.invariant inside.loop-k-test.true c.put_row-next.ensures
+    turn c.loop-k.invariant c.loop-k-test.true c.put_row-next.ensures
 
 pub loop-k-init : goal.loop-k-init
 loop-k-init c =

@@ -9,18 +9,17 @@ use Rattle.iterator.proofs.write.put_sizes.Goals as goal
 
 pub returns : goal.returns
 returns c =
-    let start = c in
-    let sizes = sizes_of start.args.t.now in
+    let sizes = sizes_of c.args.t.now in
     record {
       is =
           rw (
             c.number_at.ensures.value,
             c.number_at-2.ensures.value,
             c.number_at-3.ensures.value,
-            to_z_pos w32 sizes.points (omega (arith, start.requires.passes.0.points.high)),
-            to_z_pos w32 sizes.variables (omega (arith, start.requires.passes.0.variables.high)),
-            to_z_pos w32 sizes.mutexes (omega (arith, start.requires.passes.0.mutexes.high)),
-            to_z_pos w32 start.args.count (omega (arith, start.requires.passes.1)),
+            to_z_pos w32 sizes.points (omega (arith, c.requires.passes.0.points.high)),
+            to_z_pos w32 sizes.variables (omega (arith, c.requires.passes.0.variables.high)),
+            to_z_pos w32 sizes.mutexes (omega (arith, c.requires.passes.0.mutexes.high)),
+            to_z_pos w32 c.args.count (omega (arith, c.requires.passes.1)),
           ) refl;
       next-is = refl;
     }

@@ -8,7 +8,7 @@ use Rattle.iterator.proofs.write.put_spans.Given as goal
 
 abbrev pub invariant-loop-i : goal.invariant-loop-i
 invariant-loop-i l =
-    Putting (λ l.i. span_end l.high l.points l.index l.entries (get_or l.heads l.i 0) ∷ []) l.initial.out l.at l.count l.i l.out l.next
+    Putting (λ i. span_end l.high l.points l.index l.entries (get_or l.heads i 0) ∷ []) l.initial.out l.at l.count l.i l.out l.next
 
 abbrev pub decreases-loop-i : goal.decreases-loop-i
 decreases-loop-i l = l.count - l.i

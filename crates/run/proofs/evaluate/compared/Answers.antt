@@ -9,19 +9,17 @@ use Rattle.run.proofs.evaluate.compared.Goals as goal
 
 pub word_of-requires : goal.word_of-requires
 word_of-requires c =
-    let start = c in tested-word start.ranges.y start.requires c.is_error.ensures c.if-is_error.false
+    tested-word c.ranges.y c.requires c.is_error.ensures c.if-is_error.false
 
 pub returns-then-is_error : goal.returns-then-is_error
 returns-then-is_error c =
-    let start = c in
-    let f = start.ranges.y in
-    tell-ended f (tested f c.is_error.ensures c.if-is_error.true) start.requires _
+    let f = c.ranges.y in
+    tell-ended f (tested f c.is_error.ensures c.if-is_error.true) c.requires _
 
 pub returns-else-is_error : goal.returns-else-is_error
 returns-else-is_error c =
     let compared = c.test in
     let word = c.word_of in
-    let went = c in
-    let f = went.ranges in
-    tell-went (ok64 _ c.code_of.type_inv) _ (tested f.y went.is_error.ensures went.if-is_error.false) _
+    let f = c.ranges in
+    tell-went (ok64 _ c.code_of.type_inv) _ (tested f.y c.is_error.ensures c.if-is_error.false) _
     (c.code_of.ensures ∙ ap truth_number (rw (to_z-of_z f.a, handed32 word.ensures word.type_inv, to_z-of_z f.y) at compared.ensures))

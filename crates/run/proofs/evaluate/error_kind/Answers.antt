@@ -5,4 +5,4 @@ use Rattle.run.proofs.evaluate.error_kind.Goals as goal
 
 pub returns : goal.returns
 returns c =
-    record { r_value = rw (c.error_number.ensures.r_value, to_z-of_z c.ranges.z); r_bound = omega arith }
+    record { value = rw (c.error_number.ensures.value, to_z-of_z c.ranges.z); bound = omega arith }

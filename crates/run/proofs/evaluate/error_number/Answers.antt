@@ -22,4 +22,4 @@ overflow_cast-result c =
 
 pub returns : goal.returns
 returns c =
-    let past = past_first c.requires in rw (to_z-of_z c.ranges.z, past.0, to_z-of_z (small past.1)) (refl, past.1)
+    let past = past_first c.requires in rw (to_z-of_z c.ranges.z, past.0, to_z-of_z (small past.1)) (record { value = refl; bound = past.1 })

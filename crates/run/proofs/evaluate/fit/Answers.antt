@@ -19,15 +19,13 @@ use Rattle.run.proofs.evaluate.fit.Goals as goal
 pub returns-then-z : goal.returns-then-z
 unfolding fit fit_by
 returns-then-z c =
-    let word_told : is_word c.args.z ≡ true =
-        rw (to_z-of_z c.ranges.z) at c.if-z.true in
+    let word_told : is_word c.args.z ≡ true = rw (to_z-of_z c.ranges.z) at c.if-z.true in
     let fits : SFits w32 c.args.z =
-        let z = c.args.z in fits32 z (le_z-yes' _ _ (and_left _ _ word_told)) (le_z-yes' _ _ (and_right (le_z least z) _ word_told)) in
-    rw (to_z-of_z c.ranges.z, word_told) (λ p. word-is p fits, word-code fits)
+    let z = c.args.z in fits32 z (le_z-yes' _ _ (and_left _ _ word_told)) (le_z-yes' _ _ (and_right (le_z least z) _ word_told)) in
+    rw (to_z-of_z c.ranges.z, word_told) (record { evaluation = λ p. word-is p fits; code = word-code fits })
 
 pub returns-else-z : goal.returns-else-z
 unfolding fit fit_by
 returns-else-z c =
-    let start = c in
-    rw (rw (to_z-of_z start.ranges.z) at c.if-z.false)
-    (error-given _ 1 start.requires (omega arith) (omega arith) c.failed.ensures c.failed.type_inv)
+    rw (rw (to_z-of_z c.ranges.z) at c.if-z.false)
+    (error-given _ 1 c.requires (omega arith) (omega arith) c.failed.ensures c.failed.type_inv)

@@ -3,6 +3,7 @@
 use mathlib.Core.Path.{◌≡◌}
 use mathlib.Core.Bool.{Bool, ◌&&◌}
 use native.Mathlib.Numerals.{add-one}
+use native.Mathlib.Omega.{arith}
 use borrow.Author.Tests.{lt-ltb, le-ltb}
 use lib.IntN.{ℤ}
 use lib.Signed.{le_z}
@@ -23,27 +24,21 @@ in-range f g h e = simp to_z-of_z at e
 pub returns-then-a-w : goal.returns-then-a-w
 unfolding input_by word_in
 returns-then-a-w c =
-    let read_fits : SFits w32 (word_of c.args.schedule.now c.args.at.now) =
-        ok32 _ c.w-1.given in
-    let read = c in
-    let f = read.ranges in
-    let w = read_fits in
-    let given = word-given w c.widen.ensures c.widen.type_inv in
-    record { at_after = rw (lt-ltb _ _ read.if-p-schedule.true, in-range f.a f.b w c.if-a-w.true, add-one) (given.0 _); fact = given.1 }
+    let read_fits : SFits w32 (word_of c.args.schedule.now c.args.at.now) = ok32 _ (omega arith) in
+    let f = c.ranges in
+    let given = word-given read_fits c.widen.ensures c.widen.type_inv in
+    record { evaluation = rw (lt-ltb _ _ c.if-p-schedule.true, in-range f.a f.b read_fits c.if-a-w.true, add-one) (given.evaluation _); code = given.code }
 
 pub returns-else-a-w : goal.returns-else-a-w
 unfolding input_by word_in
 returns-else-a-w c =
-    let read_fits : SFits w32 (word_of c.args.schedule.now c.args.at.now) =
-        ok32 _ c.w-1.given in
-    let read = c in
-    let f = read.ranges in
+    let read_fits : SFits w32 (word_of c.args.schedule.now c.args.at.now) = ok32 _ (omega arith) in
+    let f = c.ranges in
     let given = word-given f.a c.widen-else-a-w.ensures c.widen-else-a-w.type_inv in
-    record { at_after = rw (lt-ltb _ _ read.if-p-schedule.true, in-range f.a f.b read_fits c.if-a-w.false, add-one) (given.0 _); fact = given.1 }
+    record { evaluation = rw (lt-ltb _ _ c.if-p-schedule.true, in-range f.a f.b read_fits c.if-a-w.false, add-one) (given.evaluation _); code = given.code }
 
 pub returns-else-p-schedule : goal.returns-else-p-schedule
 unfolding input_by
 returns-else-p-schedule c =
-    let past = c in
-    let given = word-given past.ranges.a c.widen-else-p-schedule.ensures c.widen-else-p-schedule.type_inv in
-    record { at_after = rw (le-ltb _ _ past.if-p-schedule.false) (given.0 _); fact = given.1 }
+    let given = word-given c.ranges.a c.widen-else-p-schedule.ensures c.widen-else-p-schedule.type_inv in
+    record { evaluation = rw (le-ltb _ _ c.if-p-schedule.false) (given.evaluation _); code = given.code }

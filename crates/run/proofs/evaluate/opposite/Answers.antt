@@ -6,14 +6,11 @@ use Rattle.run.proofs.evaluate.opposite.Goals as goal
 
 pub returns-then-is_error : goal.returns-then-is_error
 returns-then-is_error c =
-    let start = c in
-    let f = start.ranges.x in
-    truth-ended f (tested f c.is_error.ensures c.if-is_error.true) start.requires _
+    let f = c.ranges.x in
+    truth-ended f (tested f c.is_error.ensures c.if-is_error.true) c.requires _
 
 pub returns-else-is_error : goal.returns-else-is_error
 returns-else-is_error c =
-    let told = c in
-    let went = told in
-    let f = went.ranges.x in
-    truth-went (ok64 _ c.code_of.type_inv) _ (tested f went.is_error.ensures went.if-is_error.false) _
-    (rw (told.is_true.ensures, to_z-of_z f) at c.code_of.ensures)
+    let f = c.ranges.x in
+    truth-went (ok64 _ c.code_of.type_inv) _ (tested f c.is_error.ensures c.if-is_error.false) _
+    (rw (c.is_true.ensures, to_z-of_z f) at c.code_of.ensures)

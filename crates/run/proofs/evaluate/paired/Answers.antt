@@ -8,14 +8,11 @@ use Rattle.run.proofs.evaluate.paired.Goals as goal
 
 pub returns-then-is_error : goal.returns-then-is_error
 returns-then-is_error c =
-    let start = c in
-    let f = start.ranges.y in
-    truth-ended f (tested f c.is_error.ensures c.if-is_error.true) start.requires _
+    let f = c.ranges.y in
+    truth-ended f (tested f c.is_error.ensures c.if-is_error.true) c.requires _
 
 pub returns-else-is_error : goal.returns-else-is_error
 returns-else-is_error c =
-    let told = c in
-    let went = told in
-    let f = went.ranges.y in
-    truth-went (ok64 _ c.code_of.type_inv) _ (tested f went.is_error.ensures went.if-is_error.false) _
-    (c.code_of.ensures ∙ ap truth_number (rw (told.is_true.ensures, to_z-of_z f) at c.pair.ensures))
+    let f = c.ranges.y in
+    truth-went (ok64 _ c.code_of.type_inv) _ (tested f c.is_error.ensures c.if-is_error.false) _
+    (c.code_of.ensures ∙ ap truth_number (rw (c.is_true.ensures, to_z-of_z f) at c.pair.ensures))

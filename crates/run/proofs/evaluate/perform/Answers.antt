@@ -2,7 +2,7 @@
 -- Assumes nothing.
 use Prim.Native.Nat.{ℕ, ◌^◌, ◌<◌}
 use mathlib.Core.Path.{◌≡◌, ap}
-use borrow.Author.Rules.{rules}
+use native.Mathlib.Omega.{arith}
 use borrow.Author.Tests.{ne_eqb}
 use lib.IntN.{ℤ}
 use lib.Signed.{mag}
@@ -23,99 +23,41 @@ use Rattle.run.proofs.evaluate.perform.Goals as goal
 arm :
     (op : Operation) (n k : ℕ) {a b z r : ℤ} → SFits w32 a → SFits w32 b → kind_operation k ≡ op →
     z ≡ exact op (word a) (word b) → mag z < 2 ^ hbits w64 →
-    ((p : ℕ) → evaluation_of r p ≡ perform_by (by_zero op (word b)) n (long z) p) × Code r → mag r < 2 ^ hbits w64 →
-    ((p : ℕ) → evaluation_of (long r) p ≡ perform n (kind_operation k) a b p) × Code (long r)
+    record { evaluation : (p : ℕ) → evaluation_of r p ≡ perform_by (by_zero op (word b)) n (long z) p; code : Code r } → mag r < 2 ^ hbits w64 →
+    record { evaluation : (p : ℕ) → evaluation_of (long r) p ≡ perform n (kind_operation k) a b p; code : Code (long r) }
 unfolding perform
 arm op n k f g e q ok h okr = rw (to_z-of_z (ok64 _ okr), e) (rw (handed64 q ok, to_z-of_z f, to_z-of_z g) at h)
-
-pub plus-requires : goal.plus-requires
-unfolding kind_operation perform_by
-plus-requires c =
-    search rules
-
-pub fit-requires : goal.fit-requires
-unfolding kind_operation perform_by
-fit-requires c =
-    search rules
-
-pub minus-requires : goal.minus-requires
-unfolding kind_operation perform_by
-minus-requires c =
-    search rules
-
-pub fit-requires-in-5 : goal.fit-requires-in-5
-unfolding kind_operation perform_by
-fit-requires-in-5 c =
-    search rules
-
-pub times-requires : goal.times-requires
-unfolding kind_operation perform_by
-times-requires c =
-    search rules
-
-pub fit-requires-in-6 : goal.fit-requires-in-6
-unfolding kind_operation perform_by
-fit-requires-in-6 c =
-    search rules
-
-pub over-requires : goal.over-requires
-unfolding kind_operation perform_by
-over-requires c =
-    search rules
-
-pub divide-requires : goal.divide-requires
-unfolding kind_operation perform_by
-divide-requires c =
-    search rules
-
-pub rem-requires : goal.rem-requires
-unfolding kind_operation perform_by
-rem-requires c =
-    search rules
-
-pub divide-requires-in_default : goal.divide-requires-in_default
-unfolding kind_operation perform_by
-divide-requires-in_default c =
-    search rules
 
 pub returns-in-4 : goal.returns-in-4
 unfolding kind_operation perform_by
 returns-in-4 c =
-    let x = c in
-    let start = x in
-    let f = start.ranges in
-    arm Sum _ start.args.k f.a f.b (ap kind_operation x.in-4.is) x.plus.ensures x.plus.type_inv c.fit.ensures c.fit.type_inv
+    let f = c.ranges in
+    arm Sum _ c.args.k f.a f.b (ap kind_operation c.in-4.is) c.plus.ensures c.plus.type_inv c.fit.ensures c.fit.type_inv
 
 pub returns-in-5 : goal.returns-in-5
 unfolding kind_operation perform_by
 returns-in-5 c =
-    let x = c in
-    let start = x in
-    let f = start.ranges in
-    arm Difference _ start.args.k f.a f.b (ap kind_operation x.in-5.is) x.minus.ensures x.minus.type_inv c.fit-in-5.ensures c.fit-in-5.type_inv
+    let f = c.ranges in
+    arm Difference _ c.args.k f.a f.b (ap kind_operation c.in-5.is) c.minus.ensures c.minus.type_inv c.fit-in-5.ensures c.fit-in-5.type_inv
 
 pub returns-in-6 : goal.returns-in-6
 unfolding kind_operation perform_by
 returns-in-6 c =
-    let x = c in
-    let start = x in
-    let f = start.ranges in
-    arm Product _ start.args.k f.a f.b (ap kind_operation x.in-6.is) x.times.ensures x.times.type_inv c.fit-in-6.ensures c.fit-in-6.type_inv
+    let f = c.ranges in
+    arm Product _ c.args.k f.a f.b (ap kind_operation c.in-6.is) c.times.ensures c.times.type_inv c.fit-in-6.ensures c.fit-in-6.type_inv
 
 pub returns-in-7 : goal.returns-in-7
 unfolding kind_operation perform_by
 returns-in-7 c =
-    let x = c in
-    let start = x in
-    let f = start.ranges in
-    arm Quotient _ start.args.k f.a f.b (ap kind_operation x.in-7.is) x.over.ensures x.over.type_inv c.divide.ensures c.divide.type_inv
+    let f = c.ranges in
+    arm Quotient _ c.args.k f.a f.b (ap kind_operation c.in-7.is) c.over.ensures c.over.type_inv c.divide.ensures c.divide.type_inv
 
 pub returns-in_default : goal.returns-in_default
 unfolding kind_operation perform_by
 returns-in_default c =
-    let x = c in
-    let start = x in
-    let f = start.ranges in
-    let ((((others, sum), difference), product), quotient) = x.in_default.in_default-own.rest in
-    arm Remainder _ start.args.k f.a f.b (rw (ne_eqb _ _ sum, ne_eqb _ _ difference, ne_eqb _ _ product, ne_eqb _ _ quotient))
-    x.rem.ensures x.rem.type_inv c.divide-in_default.ensures c.divide-in_default.type_inv
+    let f = c.ranges in
+    let k = c.args.k in
+    let other : kind_operation k ≡ Remainder =
+    rw (ne_eqb k 4 (λ e. omega arith), ne_eqb k 5 (λ e. omega arith), ne_eqb k 6 (λ e. omega arith), ne_eqb k 7 (λ e. omega arith)) in
+    arm Remainder _ k f.a f.b other
+    c.rem.ensures c.rem.type_inv c.divide-in_default.ensures c.divide-in_default.type_inv

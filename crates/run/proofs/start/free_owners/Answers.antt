@@ -1,5 +1,4 @@
 -- `run::start::free_owners` meets its contract: each turn fills one slot. Assumes nothing.
-use Prim.Native.Nat.{◌-◌}
 use mathlib.Core.Path.{refl}
 use borrow.Author.Rules.{rules}
 use Rattle.words.proofs.FillLaws.{fill, fills}

@@ -6,14 +6,12 @@ use Rattle.run.proofs.start.point_slot.Goals as goal
 
 pub overflow_cast-result : goal.overflow_cast-result
 overflow_cast-result c =
-    let task = c in
-    let tasks = task in
-    let ok = tasks.requires in
+    let ok = c.requires in
     record {
       fits = omega (
         arith,
         c.first_of.ensures,
-        first-point ok _ (rw tasks.number_at.ensures.value at task.if-u-number_at.true),
+        first-point ok _ (rw c.number_at.ensures.value at c.if-u-number_at.true),
         ok.points.high,
       );
     }

@@ -8,23 +8,12 @@ use Rattle.run.proofs.start.start_points.Goals as goal
 
 pub loop-u-preserved : goal.loop-u-preserved
 loop-u-preserved c =
-    let turn = c in
-    fills turn.loop-u.invariant turn.loop-u-test.true c.point_slot.ensures
+    fills c.loop-u.invariant c.loop-u-test.true c.point_slot.ensures
 
 pub loop-u-init : goal.loop-u-init
 unfolding firsts_of
 loop-u-init c =
     fill (search rules)
-
-pub point_slot-requires : goal.point_slot-requires
-unfolding firsts_of
-point_slot-requires c =
-    search rules
-
-pub loop-u-smaller : goal.loop-u-smaller
-unfolding firsts_of
-loop-u-smaller c =
-    search rules
 
 pub returns : goal.returns
 unfolding firsts_of

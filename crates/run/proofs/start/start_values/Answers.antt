@@ -1,5 +1,4 @@
 -- `run::start::start_values` meets its contract: the loop fills the sixteen slots with the starting values, one a turn. Assumes nothing.
-use Prim.Native.Nat.{◌-◌}
 use mathlib.Core.Path.{refl, ap, ◌∙◌}
 use borrow.Author.Rules.{rules}
 use Rattle.interval.proofs.MachineArithmetic.{handed32}
@@ -11,28 +10,12 @@ use Rattle.run.proofs.start.start_values.Goals as goal
 
 pub loop-v-preserved : goal.loop-v-preserved
 loop-v-preserved c =
-    let turn = c in
-    fills turn.loop-v.invariant turn.loop-v-test.true (handed32 c.word.ensures c.word.type_inv)
-
-pub starts-from-requires : goal.starts-from-requires
-unfolding values_of
-starts-from-requires c =
-    search rules
+    fills c.loop-v.invariant c.loop-v-test.true (handed32 c.word.ensures c.word.type_inv)
 
 pub loop-v-init : goal.loop-v-init
 unfolding values_of
 loop-v-init c =
     fill (search rules)
-
-pub word-requires : goal.word-requires
-unfolding values_of
-word-requires c =
-    search rules
-
-pub loop-v-smaller : goal.loop-v-smaller
-unfolding values_of
-loop-v-smaller c =
-    search rules
 
 pub returns : goal.returns
 unfolding values_of

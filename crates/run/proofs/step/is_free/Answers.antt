@@ -20,4 +20,4 @@ free-bits (negsuc (suc n)) h = ne_eqb (of_z w8 (negsuc (suc n))) _ (λ e. omega 
 
 pub returns : goal.returns
 returns c =
-    free-bits (word_of c.args.owners.now c.args.m) c.result-1.given
+    free-bits (word_of c.args.owners.now c.args.m) (omega arith)

@@ -7,8 +7,7 @@ use Rattle.run.proofs.step.lock.Goals as goal
 
 pub returns-then-is_free : goal.returns-then-is_free
 returns-then-is_free c v n k =
-    let free = c in
-    locked _ _ _ _ free.is_free.ensures c.if-is_free.true (to_z_pos w8 (omega (arith, free.requires.0)))
+    locked _ _ _ _ c.is_free.ensures c.if-is_free.true (to_z_pos w8 (omega (arith, c.requires.0)))
 
 pub returns-else-is_free : goal.returns-else-is_free
 returns-else-is_free c v n k =

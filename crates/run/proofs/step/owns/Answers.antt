@@ -19,4 +19,4 @@ number-bits (negsuc n) u h l = ne_eqb (of_z w8 (negsuc n)) u (λ e. omega (arith
 
 pub returns : goal.returns
 returns c =
-    number-bits (word_of c.args.owners.now c.args.m) _ c.result-1.given c.requires.1
+    number-bits (word_of c.args.owners.now c.args.m) _ (omega arith) c.requires.1

@@ -4,7 +4,7 @@ use Rattle.run.proofs.step.runs.Goals as goal
 
 pub returns-then-u-number_at : goal.returns-then-u-number_at
 returns-then-u-number_at c =
-    let is = c in rw (← is.number_at.ensures.value, lt-ltb _ _ c.if-u-number_at.true)
+    rw (← c.number_at.ensures.value, lt-ltb _ _ c.if-u-number_at.true)
 
 pub returns-else-u-number_at : goal.returns-else-u-number_at
 returns-else-u-number_at c =
