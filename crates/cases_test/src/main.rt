@@ -1,6 +1,7 @@
 // Reads cases from standard input as little-endian words and prints a line for each: what a run ends in, or, where the first word is below 0, what
 // the analysis says of a tree on a row.
 #![tactic(auto)]
+
 mod play;
 mod print;
 mod read;

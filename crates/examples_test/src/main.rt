@@ -1,5 +1,6 @@
 // Runs document 01's examples that are whole checks, from the text that stands there, and prints what the check says of each.
 #![tactic(auto)]
+
 use checker::Verdict;
 use checker::check::check;
 use words::part;

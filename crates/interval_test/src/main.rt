@@ -1,5 +1,6 @@
 // Runs the interval library on a grid of ends, beside brute force over the grid values in the intervals, and counts where they differ.
 #![tactic(auto)]
+
 mod brute;
 mod combine;
 mod exact;

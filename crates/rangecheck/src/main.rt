@@ -1,5 +1,6 @@
 // Reads a table and a proposal as little-endian words from standard input, and prints what the check says of them.
 #![tactic(auto)]
+
 mod print;
 mod program;
 mod text;

@@ -1,6 +1,7 @@
 // The check, the run and the proposer for C and Rust to link: thin functions over `checker::check::check`, `run::play::run` and
 // `iterator::propose::propose`.
 #![tactic(auto)]
+
 ghost use Rattle.std.specs.Prelude.{◌≡◌, length};
 ghost use Rattle.words.specs.declared.Stage.TheVariants.{Passed, Broken};
 ghost use Rattle.words.specs.Stages.{numbers_by, stage_numbers};

@@ -1,5 +1,6 @@
 // What an accepted proposal means for every schedule: demand 3, over the definitions of the check and of the run.
 #![tactic(auto)]
+
 ghost use Rattle.soundness.specs.Claim.{Claim};
 ghost use Rattle.soundness.specs.Shown.{Shown};
 
