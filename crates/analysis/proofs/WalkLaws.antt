@@ -61,6 +61,26 @@ Branched ns s n m i m' = record { value : i ≡ range_on s (value_of (arith_at n
 abbrev pub Splits : Cond → Bool → Row → Row → Row → Maybe → List ℕ → Decision → Maybe → Maybe → List ℕ → Type 0
 Splits c w r u v j m d y z m' = (d ≡ decision_of c r) × ((y ≡ narrow_of c w u) × ((z ≡ join_rows_of j (narrow_of c (not w) v)) × (m' ≡ marked_of m (cond_alarms_of c r))))
 
+-- the same beside another fact, as a function that narrows two rows in place ensures it
+abbrev pub SplitsAnd : Type 0 → Cond → Bool → Row → Row → Row → Maybe → List ℕ → Decision → Maybe → Maybe → List ℕ → Type 0
+SplitsAnd P c w r u v j m d y z m' = record {
+  copy_if : P;
+  decision_value : d ≡ decision_of c r;
+  narrowed_after : y ≡ narrow_of c w u;
+  joined_after : z ≡ join_rows_of j (narrow_of c (not w) v);
+  marks_after : m' ≡ marked_of m (cond_alarms_of c r);
+}
+
+pub splits-and :
+    {P : Type 0} (c : Cond) (w : Bool) (r u v : Row) (j : Maybe) (m : List ℕ) {d : Decision} {y z : Maybe} {m' : List ℕ}
+    → P → Splits c w r u v j m d y z m' → SplitsAnd P c w r u v j m d y z m'
+splits-and c w r u v j m p h = record { copy_if = p; decision_value = h.0; narrowed_after = h.1.0; joined_after = h.1.1.0; marks_after = h.1.1.1 }
+
+pub splits-of :
+    {P : Type 0} (c : Cond) (w : Bool) (r u v : Row) (j : Maybe) (m : List ℕ) {d : Decision} {y z : Maybe} {m' : List ℕ}
+    → SplitsAnd P c w r u v j m d y z m' → Splits c w r u v j m d y z m'
+splits-of c w r u v j m h = (h.decision_value, (h.narrowed_after, (h.joined_after, h.marks_after)))
+
 -- what it leaves of the row r on both sides
 abbrev pub Sides : Cond → Row → List ℕ → Decision → Maybe → Maybe → List ℕ → Type 0
 Sides c r m d y z m' = (d ≡ decision_of c r) × ((y ≡ narrow_of c true r) × ((z ≡ narrow_of c false r) × (m' ≡ marked_of m (cond_alarms_of c r))))
@@ -238,13 +258,18 @@ in-turn-splits c d w r u v j m f f' y y' y'' h k l e =
 
 -- the same of the opposite truth, with nothing joined before: y is what the opposite leaves of the row v, and z what is left of the row u
 abbrev Turned : Cond → Bool → Row → Row → Row → List ℕ → Decision → Maybe → Maybe → List ℕ → Type 0
-Turned c w r u v m d y z m' = (d ≡ decision_of c r) × ((y ≡ narrow_of c (not w) v) × ((z ≡ narrow_of c w u) × (m' ≡ marked_of m (cond_alarms_of c r))))
+Turned c w r u v m d y z m' = record {
+  decision_value : d ≡ decision_of c r;
+  own_after : y ≡ narrow_of c (not w) v;
+  narrowed_after : z ≡ narrow_of c w u;
+  marks_after : m' ≡ marked_of m (cond_alarms_of c r);
+}
 
 pub turned :
     (c : Cond) (w : Bool) (r u v q : Row) (m : List ℕ) {d : Decision} {y z : Maybe} {m' : List ℕ}
     → Splits c (not w) r v u (maybe_by false q) m d y z m' → Turned c w r u v m d y z m'
 unfolding maybe_by join_rows_of
-turned c w r u v q m h = (h.0, (h.1.0, (rw (not-not w) at h.1.1.0, h.1.1.1)))
+turned c w r u v q m h = record { decision_value = h.0; own_after = h.1.0; narrowed_after = rw (not-not w) at h.1.1.0; marks_after = h.1.1.1 }
 
 -- where u is a copy, the row that is read serves for it
 pub turned-copy :
@@ -253,16 +278,29 @@ pub turned-copy :
 turned-copy c w r v q m e h = rw e (turned c w r r v q m h)
 
 pub turned-joined :
-    (c : Cond) (w : Bool) (r u v : Row) (j : Maybe) (m : List ℕ) {d : Decision} {y z o : Maybe} {m' : List ℕ}
-    → Turned c w r u v m d y z m' → o ≡ join_rows_of j y → Splits c w r u v j m d z o m'
-turned-joined c w r u v j m h e = (h.0, (h.1.1.0, (rw (← h.1.0) e, h.1.1.1)))
+    {P : Type 0} (c : Cond) (w : Bool) (r u v : Row) (j : Maybe) (m : List ℕ) {d : Decision} {y z o : Maybe} {m' : List ℕ}
+    → P → Turned c w r u v m d y z m' → o ≡ join_rows_of j y
+    → record {
+      joined_value : P;
+      decision_value : d ≡ decision_of c r;
+      narrowed_after : z ≡ narrow_of c w u;
+      joined_after : o ≡ join_rows_of j (narrow_of c (not w) v);
+      marks_after : m' ≡ marked_of m (cond_alarms_of c r);
+    }
+turned-joined c w r u v j m p h e = record {
+  joined_value = p;
+  decision_value = h.decision_value;
+  narrowed_after = h.narrowed_after;
+  joined_after = rw (← h.own_after) e;
+  marks_after = h.marks_after;
+}
 
 -- where there was no row, what the opposite leaves stands in the place of the copy v' of the row v
 pub turned-alone :
     (c : Cond) (w : Bool) (r u v q : Row) (m : List ℕ) {t : Bool} {v' : Row} {d : Decision} {y z o : Maybe} {m' : List ℕ}
     → v' ≡ v → Turned c w r u v' m d y z m' → t ≡ false → o ≡ y → Splits c w r u v (maybe_by t q) m d z o m'
 unfolding maybe_by join_rows_of
-turned-alone c w r u v q m e h f k = rw (← e, f) (h.0, (h.1.1.0, (k ∙ h.1.0, h.1.1.1)))
+turned-alone c w r u v q m e h f k = rw (← e, f) (h.decision_value, (h.narrowed_after, (k ∙ h.own_after, h.marks_after)))
 
 -- and where there was one, both together
 pub joined_to : (r q : Row) (s : Maybe) {t : Bool} → t ≡ true → some q ≡ join_rows_of (some r) s → maybe_by true q ≡ join_rows_of (maybe_by t r) s

@@ -197,7 +197,10 @@ fn split<'a, 'b, 'c, 'd, 'e>(
 ) -> Said
     requires { CopyIf asked.copy narrowed.old row.now × CopyIf asked.from_copy from.now row.now × CopyIf (not asked.some) joined.old from.now }
     ensures copy_if { CopyIf (not result.joined) joined.new from.now }
-    ensures said { (result.decision ≡ decision_of (cond_at nodes.now n) (row_in row.now)) × ((maybe_by result.narrowed (row_in narrowed.new) ≡ narrow_of (cond_at nodes.now n) asked.truth (row_in narrowed.old)) × ((maybe_by result.joined (row_in joined.new) ≡ join_rows_of (maybe_by asked.some (row_in joined.old)) (narrow_of (cond_at nodes.now n) (not asked.truth) (row_in from.now))) × (marks.new ≡ marked_of marks.old (cond_alarms_of (cond_at nodes.now n) (row_in row.now))))) }
+    ensures decision_value { result.decision ≡ decision_of (cond_at nodes.now n) (row_in row.now) }
+    ensures narrowed_after { maybe_by result.narrowed (row_in narrowed.new) ≡ narrow_of (cond_at nodes.now n) asked.truth (row_in narrowed.old) }
+    ensures joined_after { maybe_by result.joined (row_in joined.new) ≡ join_rows_of (maybe_by asked.some (row_in joined.old)) (narrow_of (cond_at nodes.now n) (not asked.truth) (row_in from.now)) }
+    ensures marks_after { marks.new ≡ marked_of marks.old (cond_alarms_of (cond_at nodes.now n) (row_in row.now)) }
 {
     let shape = shape_at(nodes, n);
     match shape {
@@ -249,7 +252,10 @@ fn split_in_turn<'a, 'b, 'c, 'd, 'e>(
 ) -> Said
     requires { CopyIf asked.copy narrowed.old row.now × CopyIf asked.from_copy from.now row.now × CopyIf (not asked.some) joined.old from.now }
     ensures copy_if { CopyIf (not result.joined) joined.new from.now }
-    ensures said { (result.decision ≡ decision_of (pair_of asked.truth (cond_at nodes.now a) (cond_at nodes.now b)) (row_in row.now)) × ((maybe_by result.narrowed (row_in narrowed.new) ≡ narrow_of (pair_of asked.truth (cond_at nodes.now a) (cond_at nodes.now b)) asked.truth (row_in narrowed.old)) × ((maybe_by result.joined (row_in joined.new) ≡ join_rows_of (maybe_by asked.some (row_in joined.old)) (narrow_of (pair_of asked.truth (cond_at nodes.now a) (cond_at nodes.now b)) (not asked.truth) (row_in from.now))) × (marks.new ≡ marked_of marks.old (cond_alarms_of (pair_of asked.truth (cond_at nodes.now a) (cond_at nodes.now b)) (row_in row.now))))) }
+    ensures decision_value { result.decision ≡ decision_of (pair_of asked.truth (cond_at nodes.now a) (cond_at nodes.now b)) (row_in row.now) }
+    ensures narrowed_after { maybe_by result.narrowed (row_in narrowed.new) ≡ narrow_of (pair_of asked.truth (cond_at nodes.now a) (cond_at nodes.now b)) asked.truth (row_in narrowed.old) }
+    ensures joined_after { maybe_by result.joined (row_in joined.new) ≡ join_rows_of (maybe_by asked.some (row_in joined.old)) (narrow_of (pair_of asked.truth (cond_at nodes.now a) (cond_at nodes.now b)) (not asked.truth) (row_in from.now)) }
+    ensures marks_after { marks.new ≡ marked_of marks.old (cond_alarms_of (pair_of asked.truth (cond_at nodes.now a) (cond_at nodes.now b)) (row_in row.now)) }
 {
     let s = split(nodes, a, row, marks, asked, narrowed, from, joined);
     let next = Asked {
@@ -285,7 +291,10 @@ fn split_joined<'a, 'b, 'c, 'd, 'e>(
 ) -> Said
     requires { CopyIf asked.copy narrowed.old row.now × CopyIf asked.from_copy from.now row.now × CopyIf (not asked.some) joined.old from.now }
     ensures copy_if { CopyIf (not result.joined) joined.new from.now }
-    ensures said { (result.decision ≡ decision_of (pair_of (not asked.truth) (cond_at nodes.now a) (cond_at nodes.now b)) (row_in row.now)) × ((maybe_by result.narrowed (row_in narrowed.new) ≡ narrow_of (pair_of (not asked.truth) (cond_at nodes.now a) (cond_at nodes.now b)) asked.truth (row_in narrowed.old)) × ((maybe_by result.joined (row_in joined.new) ≡ join_rows_of (maybe_by asked.some (row_in joined.old)) (narrow_of (pair_of (not asked.truth) (cond_at nodes.now a) (cond_at nodes.now b)) (not asked.truth) (row_in from.now))) × (marks.new ≡ marked_of marks.old (cond_alarms_of (pair_of (not asked.truth) (cond_at nodes.now a) (cond_at nodes.now b)) (row_in row.now))))) }
+    ensures decision_value { result.decision ≡ decision_of (pair_of (not asked.truth) (cond_at nodes.now a) (cond_at nodes.now b)) (row_in row.now) }
+    ensures narrowed_after { maybe_by result.narrowed (row_in narrowed.new) ≡ narrow_of (pair_of (not asked.truth) (cond_at nodes.now a) (cond_at nodes.now b)) asked.truth (row_in narrowed.old) }
+    ensures joined_after { maybe_by result.joined (row_in joined.new) ≡ join_rows_of (maybe_by asked.some (row_in joined.old)) (narrow_of (pair_of (not asked.truth) (cond_at nodes.now a) (cond_at nodes.now b)) (not asked.truth) (row_in from.now)) }
+    ensures marks_after { marks.new ≡ marked_of marks.old (cond_alarms_of (pair_of (not asked.truth) (cond_at nodes.now a) (cond_at nodes.now b)) (row_in row.now)) }
 {
     if asked.some {
         return split_apart(nodes, a, b, row, marks, asked, narrowed, from, joined);
@@ -315,7 +324,10 @@ fn split_apart<'a, 'b, 'c, 'd, 'e>(
 ) -> Said
     requires { CopyIf asked.copy narrowed.old row.now × CopyIf asked.from_copy from.now row.now × (asked.some ≡ true) }
     ensures joined_value { result.joined ≡ true }
-    ensures said { (result.decision ≡ decision_of (pair_of (not asked.truth) (cond_at nodes.now a) (cond_at nodes.now b)) (row_in row.now)) × ((maybe_by result.narrowed (row_in narrowed.new) ≡ narrow_of (pair_of (not asked.truth) (cond_at nodes.now a) (cond_at nodes.now b)) asked.truth (row_in narrowed.old)) × ((maybe_by result.joined (row_in joined.new) ≡ join_rows_of (maybe_by asked.some (row_in joined.old)) (narrow_of (pair_of (not asked.truth) (cond_at nodes.now a) (cond_at nodes.now b)) (not asked.truth) (row_in from.now))) × (marks.new ≡ marked_of marks.old (cond_alarms_of (pair_of (not asked.truth) (cond_at nodes.now a) (cond_at nodes.now b)) (row_in row.now))))) }
+    ensures decision_value { result.decision ≡ decision_of (pair_of (not asked.truth) (cond_at nodes.now a) (cond_at nodes.now b)) (row_in row.now) }
+    ensures narrowed_after { maybe_by result.narrowed (row_in narrowed.new) ≡ narrow_of (pair_of (not asked.truth) (cond_at nodes.now a) (cond_at nodes.now b)) asked.truth (row_in narrowed.old) }
+    ensures joined_after { maybe_by result.joined (row_in joined.new) ≡ join_rows_of (maybe_by asked.some (row_in joined.old)) (narrow_of (pair_of (not asked.truth) (cond_at nodes.now a) (cond_at nodes.now b)) (not asked.truth) (row_in from.now)) }
+    ensures marks_after { marks.new ≡ marked_of marks.old (cond_alarms_of (pair_of (not asked.truth) (cond_at nodes.now a) (cond_at nodes.now b)) (row_in row.now)) }
 {
     let mut own = *from;
     let s = split_turned(nodes, a, b, row, marks, asked, narrowed, &mut own);
@@ -342,7 +354,10 @@ fn split_turned<'a, 'b, 'c, 'd, 'e>(
     own: &'e mut Row,
 ) -> Said
     requires { CopyIf asked.copy narrowed.old row.now × CopyIf asked.from_copy own.old row.now }
-    ensures { (result.decision ≡ decision_of (pair_of (not asked.truth) (cond_at nodes.now a) (cond_at nodes.now b)) (row_in row.now)) × ((maybe_by result.narrowed (row_in own.new) ≡ narrow_of (pair_of (not asked.truth) (cond_at nodes.now a) (cond_at nodes.now b)) (not asked.truth) (row_in own.old)) × ((maybe_by result.joined (row_in narrowed.new) ≡ narrow_of (pair_of (not asked.truth) (cond_at nodes.now a) (cond_at nodes.now b)) asked.truth (row_in narrowed.old)) × (marks.new ≡ marked_of marks.old (cond_alarms_of (pair_of (not asked.truth) (cond_at nodes.now a) (cond_at nodes.now b)) (row_in row.now))))) }
+    ensures decision_value { result.decision ≡ decision_of (pair_of (not asked.truth) (cond_at nodes.now a) (cond_at nodes.now b)) (row_in row.now) }
+    ensures own_after { maybe_by result.narrowed (row_in own.new) ≡ narrow_of (pair_of (not asked.truth) (cond_at nodes.now a) (cond_at nodes.now b)) (not asked.truth) (row_in own.old) }
+    ensures narrowed_after { maybe_by result.joined (row_in narrowed.new) ≡ narrow_of (pair_of (not asked.truth) (cond_at nodes.now a) (cond_at nodes.now b)) asked.truth (row_in narrowed.old) }
+    ensures marks_after { marks.new ≡ marked_of marks.old (cond_alarms_of (pair_of (not asked.truth) (cond_at nodes.now a) (cond_at nodes.now b)) (row_in row.now)) }
 {
     let turned = Asked {
         truth: !asked.truth,

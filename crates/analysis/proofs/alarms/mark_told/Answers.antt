@@ -8,6 +8,4 @@ use Rattle.analysis.proofs.alarms.mark_told.Goals as goal
 pub returns : goal.returns
 unfolding told_of
 returns c =
-    let zero = c in
-    let overflow = zero in
-    record { value = refl; marks_after = rw (zero.mark_if-2.ensures, overflow.mark_if.ensures) (sym (marked_append _ _ _)) }
+    record { value = refl; marks_after = rw (c.mark_if-2.ensures, c.mark_if.ensures) (sym (marked_append _ _ _)) }

@@ -13,7 +13,7 @@ use Rattle.table.specs.Tree.{arith_by}
 use Rattle.table.proofs.KindLaws.{Operates, both_below, all-below, constant-shape, input-shape, variable-shape, negation-below, negation-bad, operation-below, operation-bad, choice-below, choice-bad, leaf-high, no-arith}
 use Rattle.table.proofs.TreeLaws.{children-of}
 use Rattle.analysis.proofs.BareLaws.{picked-most, bare-choice}
-use Rattle.analysis.proofs.WalkLaws.{branch-taken, branch-left-out, constant-valued, input-valued, variable-valued, negation-valued, binary-valued, choice-valued, chosen, cut-left-out, cut-taken, chosen_by, choice-by, no_value, sides-of, in-turn-splits, turned, turned-copy, turned-joined, turned-alone, joined_to, cuts-known, cut-leaves, one-slot, compare-splits, both-node-splits, either-node-splits, not-splits, no-splits, copy-known}
+use Rattle.analysis.proofs.WalkLaws.{branch-taken, branch-left-out, constant-valued, input-valued, variable-valued, negation-valued, binary-valued, choice-valued, chosen, cut-left-out, cut-taken, chosen_by, choice-by, no_value, sides-of, splits-and, splits-of, in-turn-splits, turned, turned-copy, turned-joined, turned-alone, joined_to, cuts-known, cut-leaves, one-slot, compare-splits, both-node-splits, either-node-splits, not-splits, no-splits, copy-known}
 use Rattle.analysis.specs.Rows.{join_rows_of}
 use Rattle.analysis.specs.Arrays.{row_in}
 use Rattle.analysis.proofs.RowCodeLaws.{few-lows, few-highs}
@@ -29,7 +29,7 @@ branch-value-requires t c =
 pub branch-returns-then-taken : goal.branch-returns-then-taken
 unfolding arith_by
 branch-returns-then-taken t c =
-    let valued = c in branch-taken _ _ _ _ _ valued.if-taken.true valued.value.ensures
+    branch-taken _ _ _ _ _ c.if-taken.true c.value.ensures
 
 pub branch-returns-else-taken : goal.branch-returns-else-taken
 unfolding arith_by
@@ -38,39 +38,25 @@ branch-returns-else-taken t c =
 
 pub choose-choose_by-requires : goal.choose-choose_by-requires
 choose-choose_by-requires t c =
-    let arm = c in
-    let second = arm in
-    let first = second in
-    let under = first in
-    let below = children-of _ _ (sym arm.shape_at-shape.ensures ∙ arm.in-Compare.is) in
-    let most = picked-most under.bare-under.result.turned _ _ first.other_if-then.ensures second.other_if-other.ensures in
+    let below = children-of _ _ (sym c.shape_at-shape.ensures ∙ c.in-Compare.is) in
+    let most = picked-most c.bare-under.result.turned _ _ c.other_if-then.ensures c.other_if-other.ensures in
     omega arith
 
 pub choose-choose_split-requires : goal.choose-choose_split-requires
 choose-choose_split-requires t c =
-    let second = c in
-    let first = second in
-    let under = first in
-    let most = picked-most under.bare-under.result.turned _ _ first.other_if-then.ensures second.other_if-other.ensures in
+    let most = picked-most c.bare-under.result.turned _ _ c.other_if-then.ensures c.other_if-other.ensures in
     omega arith
 
 pub choose-returns-in-Compare : goal.choose-returns-in-Compare
 unfolding arith_by
 choose-returns-in-Compare t c =
-    let chose = c in
-    let arm = chose in
-    let second = arm in
-    let first = second in
-    let shape = sym arm.shape_at-shape.ensures ∙ arm.in-Compare.is in
-    bare-choice _ _ _ _ _ _ _ first.bare-under.ensures first.other_if-then.ensures second.other_if-other.ensures (choice-by _ _ _ _ _ _ shape chose.choose_by.ensures)
+    let shape = sym c.shape_at-shape.ensures ∙ c.in-Compare.is in
+    bare-choice _ _ _ _ _ _ _ c.bare-under.ensures c.other_if-then.ensures c.other_if-other.ensures (choice-by _ _ _ _ _ _ shape c.choose_by.ensures)
 
 pub choose-returns-in_default : goal.choose-returns-in_default
 unfolding arith_by
 choose-returns-in_default t c =
-    let chose = c in
-    let second = chose in
-    let first = second in
-    bare-choice _ _ _ _ _ _ _ first.bare-under.ensures first.other_if-then.ensures second.other_if-other.ensures chose.choose_split.ensures
+    bare-choice _ _ _ _ _ _ _ c.bare-under.ensures c.other_if-then.ensures c.other_if-other.ensures c.choose_split.ensures
 
 pub choose_by-value-left-requires : goal.choose_by-value-left-requires
 choose_by-value-left-requires t c =
@@ -82,34 +68,22 @@ choose_by-value-right-requires t c =
 
 pub choose_by-cut_branch-then-requires : goal.choose_by-cut_branch-then-requires
 choose_by-cut_branch-then-requires t c =
-    let start = c in let falls : 8 * start.args.a + 2 < t = omega arith in (falls, tt)
+    let falls : 8 * c.args.a + 2 < t = omega arith in (falls, tt)
 
 pub choose_by-cut_branch-other-requires : goal.choose_by-cut_branch-other-requires
 choose_by-cut_branch-other-requires t c =
-    let start = c in let falls : 8 * start.args.b + 2 < t = omega arith in (falls, tt)
+    let falls : 8 * c.args.b + 2 < t = omega arith in (falls, tt)
 
 pub choose_by-shape_of-marks : goal.choose_by-shape_of-marks
 choose_by-shape_of-marks t c =
-    let else = c in
-    let then = else in
-    let right = then in
-    else.marks-4-1.given ∙ then.marks-3-1.given ∙ right.marks-2-1.given ∙ right.marks-1.given
+    c.marks-4-1.given ∙ c.marks-3-1.given ∙ c.marks-2-1.given ∙ c.marks-1.given
 
 pub choose_by-returns : goal.choose_by-returns
 unfolding arith_by
 choose_by-returns t c =
-    let else = c in
-    let then = else in
-    let no = then in
-    let yes = no in
-    let right-at = yes in
-    let left_at = right-at in
-    let test = left_at in
-    let right = test in
-    let left = right in
-    let row = left.args.row.now in
-    chosen_by _ (row_in row) _ _ _ _ _ _ (few-lows row) (few-highs row) left.value-left.ensures right.value-right.ensures test.compare-d.ensures left_at.variable_or-v.ensures
-    right-at.variable_or-w.ensures yes.cuts-yes.ensures no.cuts-no.ensures then.cut_branch-then.ensures else.cut_branch-other.ensures c.join.ensures
+    let row = c.args.row.now in
+    chosen_by _ (row_in row) _ _ _ _ _ _ (few-lows row) (few-highs row) c.value-left.ensures c.value-right.ensures c.compare-d.ensures c.variable_or-v.ensures
+    c.variable_or-w.ensures c.cuts-yes.ensures c.cuts-no.ensures c.cut_branch-then.ensures c.cut_branch-other.ensures c.join.ensures
 
 pub choose_split-split-s-requires : goal.choose_split-split-s-requires
 choose_split-split-s-requires t c =
@@ -126,10 +100,7 @@ choose_split-branch-y-requires t c =
 pub choose_split-returns : goal.choose_split-returns
 unfolding arith_by
 choose_split-returns t c =
-    let else = c in
-    let then = else in
-    let said = then in
-    chosen _ _ _ _ _ _ _ _ _ _ (sides-of _ _ _ _ said.split-s.ensures.said) then.branch-x.ensures else.branch-y.ensures c.join.ensures
+    chosen _ _ _ _ _ _ _ _ _ _ (sides-of _ _ _ _ (splits-of _ _ _ _ _ _ _ c.split-s.ensures)) c.branch-x.ensures c.branch-y.ensures c.join.ensures
 
 pub cut_branch-returns-then-not-allowed : goal.cut_branch-returns-then-not-allowed
 unfolding arith_by
@@ -143,9 +114,7 @@ cut_branch-branch-some-requires t c =
 pub cut_branch-returns : goal.cut_branch-returns
 unfolding arith_by
 cut_branch-returns t c =
-    let valued = c in
-    let own = valued in
-    cut-taken _ _ _ _ _ _ _ own.if-not-allowed.false own.put_cuts-some.ensures valued.branch-some.ensures
+    cut-taken _ _ _ _ _ _ _ c.if-not-allowed.false c.put_cuts-some.ensures c.branch-some.ensures
 
 pub cuts_on-returns-then-known : goal.cuts_on-returns-then-known
 unfolding arith_by
@@ -163,46 +132,40 @@ cuts_on-value-v-requires t c =
 pub cuts_on-returns : goal.cuts_on-returns
 unfolding arith_by
 cuts_on-returns t c =
-    let second = c in
-    let first = second in
-    cuts-known _ _ _ _ _ _ first.value-u.ensures.value second.value-v.ensures.value c.cuts-2.ensures
+    cuts-known _ _ _ _ _ _ c.value-u.ensures.value c.value-v.ensures.value c.cuts-2.ensures
 
 pub split-value-x-requires : goal.split-value-x-requires
 split-value-x-requires t c =
-    let arm = c in let below = children-of _ _ (sym arm.shape_at-shape.ensures ∙ arm.in-Compare.is) in omega arith
+    let below = children-of _ _ (sym c.shape_at-shape.ensures ∙ c.in-Compare.is) in omega arith
 
 pub split-value-y-requires : goal.split-value-y-requires
 split-value-y-requires t c =
-    let arm = c in let below = children-of _ _ (sym arm.shape_at-shape.ensures ∙ arm.in-Compare.is) in omega arith
+    let below = children-of _ _ (sym c.shape_at-shape.ensures ∙ c.in-Compare.is) in omega arith
 
 pub split-split_by-requires : goal.split-split_by-requires
 split-split_by-requires t c =
-    let right = c in
-    let left = right in
-    let arm = left in
-    let start = arm in
-    let below = children-of _ _ (sym arm.shape_at-shape.ensures ∙ arm.in-Compare.is) in
-    (omega arith, (copy-known _ _ _ _ _ _ start.requires.0 left.value-x.ensures.value right.value-y.ensures.value, copy-known _ _ _ _ _ _ start.requires.1 left.value-x.ensures.value right.value-y.ensures.value, start.requires.2))
+    let below = children-of _ _ (sym c.shape_at-shape.ensures ∙ c.in-Compare.is) in
+    (omega arith, (copy-known _ _ _ _ _ _ c.requires.0 c.value-x.ensures.value c.value-y.ensures.value, copy-known _ _ _ _ _ _ c.requires.1 c.value-x.ensures.value c.value-y.ensures.value, c.requires.2))
 
 pub split-split_in_turn-requires : goal.split-split_in_turn-requires
 split-split_in_turn-requires t c =
-    let arm = c in let below = children-of _ _ (sym arm.shape_at-shape.ensures ∙ arm.in-Both.is) in (omega arith, arm.requires)
+    let below = children-of _ _ (sym c.shape_at-shape.ensures ∙ c.in-Both.is) in (omega arith, c.requires)
 
 pub split-split_joined-requires : goal.split-split_joined-requires
 split-split_joined-requires t c =
-    let arm = c in let below = children-of _ _ (sym arm.shape_at-shape.ensures ∙ arm.in-Both.is) in (omega arith, arm.requires)
+    let below = children-of _ _ (sym c.shape_at-shape.ensures ∙ c.in-Both.is) in (omega arith, c.requires)
 
 pub split-split_joined-requires-then-asked-2 : goal.split-split_joined-requires-then-asked-2
 split-split_joined-requires-then-asked-2 t c =
-    let arm = c in let below = children-of _ _ (sym arm.shape_at-shape.ensures ∙ arm.in-Either.is) in (omega arith, arm.requires)
+    let below = children-of _ _ (sym c.shape_at-shape.ensures ∙ c.in-Either.is) in (omega arith, c.requires)
 
 pub split-split_in_turn-requires-else-asked-2 : goal.split-split_in_turn-requires-else-asked-2
 split-split_in_turn-requires-else-asked-2 t c =
-    let arm = c in let below = children-of _ _ (sym arm.shape_at-shape.ensures ∙ arm.in-Either.is) in (omega arith, arm.requires)
+    let below = children-of _ _ (sym c.shape_at-shape.ensures ∙ c.in-Either.is) in (omega arith, c.requires)
 
 pub split-split-requires : goal.split-split-requires
 split-split-requires t c =
-    let arm = c in let below = children-of _ _ (sym arm.shape_at-shape.ensures ∙ arm.in-Not.is) in (omega arith, arm.requires)
+    let below = children-of _ _ (sym c.shape_at-shape.ensures ∙ c.in-Not.is) in (omega arith, c.requires)
 
 pub split-no_condition-requires : goal.split-no_condition-requires
 split-no_condition-requires t c =
@@ -211,85 +174,65 @@ split-no_condition-requires t c =
 pub split-returns-in-Compare : goal.split-returns-in-Compare
 unfolding arith_by
 split-returns-in-Compare t c =
-    let right = c in
-    let left = right in
-    let arm = left in record { copy_if = c.split_by.ensures.copy_if; said = compare-splits _ _ _ _ _ _ _ _ (sym arm.shape_at-shape.ensures ∙ arm.in-Compare.is) left.value-x.ensures right.value-y.ensures (c.split_by.ensures.decision_value, (c.split_by.ensures.narrowed_after, c.split_by.ensures.joined_after)) }
+    splits-and _ _ _ _ _ _ _ (c.split_by.ensures.copy_if) (compare-splits _ _ _ _ _ _ _ _ (sym c.shape_at-shape.ensures ∙ c.in-Compare.is) c.value-x.ensures c.value-y.ensures (c.split_by.ensures.decision_value, (c.split_by.ensures.narrowed_after, c.split_by.ensures.joined_after)))
 
 pub split-returns-then-asked : goal.split-returns-then-asked
 unfolding arith_by
 split-returns-then-asked t c =
-    let said = c in
-    let test = said in
-    let arm = test in record { copy_if = said.split_in_turn.ensures.copy_if; said = both-node-splits _ _ _ _ _ _ _ _ (sym arm.shape_at-shape.ensures ∙ arm.in-Both.is) test.if-asked.true said.split_in_turn.ensures.said }
+    splits-and _ _ _ _ _ _ _ (c.split_in_turn.ensures.copy_if) (both-node-splits _ _ _ _ _ _ _ _ (sym c.shape_at-shape.ensures ∙ c.in-Both.is) c.if-asked.true (splits-of _ _ _ _ _ _ _ c.split_in_turn.ensures))
 
 pub split-returns-else-asked : goal.split-returns-else-asked
 unfolding arith_by
 split-returns-else-asked t c =
-    let said = c in
-    let test = said in
-    let arm = test in record { copy_if = said.split_joined.ensures.copy_if; said = both-node-splits _ _ _ _ _ _ _ _ (sym arm.shape_at-shape.ensures ∙ arm.in-Both.is) (ap not test.if-asked.false) said.split_joined.ensures.said }
+    splits-and _ _ _ _ _ _ _ (c.split_joined.ensures.copy_if) (both-node-splits _ _ _ _ _ _ _ _ (sym c.shape_at-shape.ensures ∙ c.in-Both.is) (ap not c.if-asked.false) (splits-of _ _ _ _ _ _ _ c.split_joined.ensures))
 
 pub split-returns-then-asked-2 : goal.split-returns-then-asked-2
 unfolding arith_by
 split-returns-then-asked-2 t c =
-    let said = c in
-    let test = said in
-    let arm = test in record { copy_if = said.split_joined-then-asked-2.ensures.copy_if; said = either-node-splits _ _ _ _ _ _ _ _ (sym arm.shape_at-shape.ensures ∙ arm.in-Either.is) (ap not test.if-asked-2.true) said.split_joined-then-asked-2.ensures.said }
+    splits-and _ _ _ _ _ _ _ (c.split_joined-then-asked-2.ensures.copy_if) (either-node-splits _ _ _ _ _ _ _ _ (sym c.shape_at-shape.ensures ∙ c.in-Either.is) (ap not c.if-asked-2.true) (splits-of _ _ _ _ _ _ _ c.split_joined-then-asked-2.ensures))
 
 pub split-returns-else-asked-2 : goal.split-returns-else-asked-2
 unfolding arith_by
 split-returns-else-asked-2 t c =
-    let said = c in
-    let test = said in
-    let arm = test in record { copy_if = said.split_in_turn-else-asked-2.ensures.copy_if; said = either-node-splits _ _ _ _ _ _ _ _ (sym arm.shape_at-shape.ensures ∙ arm.in-Either.is) test.if-asked-2.false said.split_in_turn-else-asked-2.ensures.said }
+    splits-and _ _ _ _ _ _ _ (c.split_in_turn-else-asked-2.ensures.copy_if) (either-node-splits _ _ _ _ _ _ _ _ (sym c.shape_at-shape.ensures ∙ c.in-Either.is) c.if-asked-2.false (splits-of _ _ _ _ _ _ _ c.split_in_turn-else-asked-2.ensures))
 
 pub split-returns-in-Not : goal.split-returns-in-Not
 unfolding arith_by
 split-returns-in-Not t c =
-    let said = c in
-    let arm = said in record { copy_if = λ e. said.split.ensures.copy_if (ap not (sym c.opposed.ensures.narrowed_value.1) ∙ e); said = not-splits _ _ _ _ _ _ _ _ _ _ _ _ _ _ (sym arm.shape_at-shape.ensures ∙ arm.in-Not.is) said.split.ensures.said (c.opposed.ensures.decision_value, c.opposed.ensures.narrowed_value) }
+    splits-and _ _ _ _ _ _ _ (λ e. c.split.ensures.copy_if (ap not (sym c.opposed.ensures.narrowed_value.1) ∙ e)) (not-splits _ _ _ _ _ _ _ _ _ _ _ _ _ _ (sym c.shape_at-shape.ensures ∙ c.in-Not.is) (splits-of _ _ _ _ _ _ _ c.split.ensures) (c.opposed.ensures.decision_value, c.opposed.ensures.narrowed_value))
 
 pub split-returns-in_default : goal.split-returns-in_default
 unfolding arith_by
 split-returns-in_default t c =
-    let arm = c in record { copy_if = c.no_condition.ensures.copy_if; said = no-splits _ _ _ _ _ _ _ _ _ _ (sym arm.shape_at-shape.ensures) (opened arm.in_default.in_default-own.keys5) (c.no_condition.ensures.decision_value, (c.no_condition.ensures.narrowed_value, c.no_condition.ensures.joined_after)) }
+    splits-and _ _ _ _ _ _ _ (c.no_condition.ensures.copy_if) (no-splits _ _ _ _ _ _ _ _ _ _ (sym c.shape_at-shape.ensures) (opened c.in_default.in_default-own.keys5) (c.no_condition.ensures.decision_value, (c.no_condition.ensures.narrowed_value, c.no_condition.ensures.joined_after)))
 
 pub split_apart-split_turned-s-requires : goal.split_apart-split_turned-s-requires
 split_apart-split_turned-s-requires t c =
-    let start = c in (omega arith, (start.requires.0, start.requires.1))
+    (omega arith, (c.requires.0, c.requires.1))
 
 pub split_apart-returns : goal.split_apart-returns
 unfolding arith_by
 split_apart-returns t c =
-    let joined = c in
-    let said = joined in
-    let start = said in record { joined_value = refl; said = turned-joined _ _ _ _ _ _ _ said.split_turned-s.ensures (joined_to _ _ _ start.requires.2 joined.widen_if.ensures) }
+    turned-joined _ _ _ _ _ _ _ refl c.split_turned-s.ensures (joined_to _ _ _ c.requires.2 c.widen_if.ensures)
 
 pub split_by-cuts_on-kept-requires : goal.split_by-cuts_on-kept-requires
 split_by-cuts_on-kept-requires t c =
-    let start = c in (omega arith, start.requires.0)
+    (omega arith, c.requires.0)
 
 pub split_by-cuts_on-added-requires : goal.split_by-cuts_on-added-requires
 split_by-cuts_on-added-requires t c =
-    let start = c in (omega arith, start.requires.1)
+    (omega arith, c.requires.1)
 
 pub split_by-add_cuts-more-requires : goal.split_by-add_cuts-more-requires
 split_by-add_cuts-more-requires t c =
-    let right-at = c in
-    let left_at = right-at in
-    record { copy_if = left_at.requires.2; v_bound = one-slot _ _ left_at.variable_or-v.ensures right-at.variable_or-w.ensures }
+    record { copy_if = c.requires.2; v_bound = one-slot _ _ c.variable_or-v.ensures c.variable_or-w.ensures }
 
 pub split_by-returns : goal.split_by-returns
 unfolding arith_by
 split_by-returns t c =
-    let added = c in
-    let put = added in
-    let kept = put in
-    let right-at = kept in
-    let left_at = right-at in
-    let given = left_at.args in
-    let v = left_at.variable_or-v.ensures in
-    let w = right-at.variable_or-w.ensures in record { copy_if = c.add_cuts-more.ensures.copy_if_2; decision_value = left_at.compare-d.ensures; narrowed_after = put.put_cuts-left.ensures ∙ cut-leaves _ given.narrowed.now _ _ _ _ v w kept.cuts_on-kept.ensures; joined_after = c.add_cuts-more.ensures.row_after ∙ ap (join_rows_of _) (cut-leaves _ given.from.now _ _ _ _ v w added.cuts_on-added.ensures) }
+    let given = c.args in
+    let v = c.variable_or-v.ensures in
+    let w = c.variable_or-w.ensures in record { copy_if = c.add_cuts-more.ensures.copy_if_2; decision_value = c.compare-d.ensures; narrowed_after = c.put_cuts-left.ensures ∙ cut-leaves _ given.narrowed.now _ _ _ _ v w c.cuts_on-kept.ensures; joined_after = c.add_cuts-more.ensures.row_after ∙ ap (join_rows_of _) (cut-leaves _ given.from.now _ _ _ _ v w c.cuts_on-added.ensures) }
 
 pub split_in_turn-split-s-requires : goal.split_in_turn-split-s-requires
 split_in_turn-split-s-requires t c =
@@ -297,65 +240,49 @@ split_in_turn-split-s-requires t c =
 
 pub split_in_turn-split-t-requires : goal.split_in_turn-split-t-requires
 split_in_turn-split-t-requires t c =
-    let copied = c in
-    let start = copied in
-    let falls : 8 * start.args.b < t = omega arith in
-    (falls, (copied.is_copy.ensures.left_after, start.requires.1, copied.split-s.ensures.copy_if))
+    let falls : 8 * c.args.b < t = omega arith in
+    (falls, (c.is_copy.ensures.left_after, c.requires.1, c.split-s.ensures.copy_if))
 
 pub split_in_turn-returns : goal.split_in_turn-returns
 unfolding arith_by
 split_in_turn-returns t c =
-    let combined = c in
-    let right = combined in
-    let kept = right in
-    let left = kept in record { copy_if = right.split-t.ensures.copy_if; said = in-turn-splits _ _ _ _ _ _ _ _ _ _ _ _ _ left.split-s.ensures.said kept.is_copy.ensures.left_unchanged right.split-t.ensures.said combined.combine-f.ensures }
+    splits-and _ _ _ _ _ _ _ (c.split-t.ensures.copy_if) (in-turn-splits _ _ _ _ _ _ _ _ _ _ _ _ _ (splits-of _ _ _ _ _ _ _ c.split-s.ensures) c.is_copy.ensures.left_unchanged (splits-of _ _ _ _ _ _ _ c.split-t.ensures) c.combine-f.ensures)
 
 pub split_joined-split_apart-requires : goal.split_joined-split_apart-requires
 split_joined-split_apart-requires t c =
-    let test = c in
-    let start = test in
-    (omega arith, (start.requires.0, start.requires.1, test.if-asked.true))
+    (omega arith, (c.requires.0, c.requires.1, c.if-asked.true))
 
 pub split_joined-returns-then-asked : goal.split_joined-returns-then-asked
 unfolding arith_by
 split_joined-returns-then-asked t c =
-    record { copy_if = λ e. clash (sym e ∙ ap not c.split_apart.ensures.joined_value); said = c.split_apart.ensures.said }
+    record { copy_if = λ e. clash (sym e ∙ ap not c.split_apart.ensures.joined_value); decision_value = c.split_apart.ensures.decision_value; narrowed_after = c.split_apart.ensures.narrowed_after; joined_after = c.split_apart.ensures.joined_after; marks_after = c.split_apart.ensures.marks_after }
 
 pub split_joined-split_turned-s-requires : goal.split_joined-split_turned-s-requires
 split_joined-split_turned-s-requires t c =
-    let test = c in
-    let start = test in
-    (omega arith, (start.requires.0, λ e. start.requires.2 (ap not test.if-asked.false) ∙ start.requires.1 e))
+    (omega arith, (c.requires.0, λ e. c.requires.2 (ap not c.if-asked.false) ∙ c.requires.1 e))
 
 pub split_joined-returns : goal.split_joined-returns
 unfolding arith_by
 split_joined-returns t c =
-    let copied = c in
-    let said = copied in
-    let test = said in
-    let start = test in record { copy_if = copied.copy_unless.ensures.copy_if; said = turned-alone _ _ _ _ _ _ _ (ap row_in (start.requires.2 (ap not test.if-asked.false))) said.split_turned-s.ensures test.if-asked.false copied.copy_unless.ensures.row_unchanged }
+    splits-and _ _ _ _ _ _ _ (c.copy_unless.ensures.copy_if) (turned-alone _ _ _ _ _ _ _ (ap row_in (c.requires.2 (ap not c.if-asked.false))) c.split_turned-s.ensures c.if-asked.false c.copy_unless.ensures.row_unchanged)
 
 pub split_turned-split_in_turn-requires : goal.split_turned-split_in_turn-requires
 split_turned-split_in_turn-requires t c =
-    let test = c in
-    let start = test in
-    (omega arith, (start.requires.1, λ e. refl, λ e. start.requires.0 test.if-asked.true))
+    (omega arith, (c.requires.1, λ e. refl, λ e. c.requires.0 c.if-asked.true))
 
 pub split_turned-returns-then-asked : goal.split_turned-returns-then-asked
 unfolding arith_by
 split_turned-returns-then-asked t c =
-    let said = c in
-    let test = said in
-    turned-copy _ _ _ _ _ _ (ap row_in (test.requires.0 test.if-asked.true)) said.split_in_turn.ensures.said
+    turned-copy _ _ _ _ _ _ (ap row_in (c.requires.0 c.if-asked.true)) (splits-of _ _ _ _ _ _ _ c.split_in_turn.ensures)
 
 pub split_turned-split_in_turn-requires-2 : goal.split_turned-split_in_turn-requires-2
 split_turned-split_in_turn-requires-2 t c =
-    let start = c in (omega arith, (start.requires.1, start.requires.0, λ e. refl))
+    (omega arith, (c.requires.1, c.requires.0, λ e. refl))
 
 pub split_turned-returns : goal.split_turned-returns
 unfolding arith_by
 split_turned-returns t c =
-    turned _ _ _ _ _ _ _ c.split_in_turn-2.ensures.said
+    turned _ _ _ _ _ _ _ (splits-of _ _ _ _ _ _ _ c.split_in_turn-2.ensures)
 
 pub value-value-x-requires : goal.value-value-x-requires
 value-value-x-requires t c =
@@ -363,89 +290,70 @@ value-value-x-requires t c =
 
 pub value-choose-requires : goal.value-choose-requires
 value-choose-requires t c =
-    let test = c in
-    let node = test.node_at-f.result in
-    let below = all-below _ node.a node.b node.c test.if-f-n-2.true in
+    let node = c.node_at-f.result in
+    let below = all-below _ node.a node.b node.c c.if-f-n-2.true in
     omega arith
 
 pub value-value-x-requires-then-f-n-3 : goal.value-value-x-requires-then-f-n-3
 value-value-x-requires-then-f-n-3 t c =
-    let operands : let read = c in let node = read.node_at-f.result in let n = read.args.n in (node.a < n) × (node.b < n) = both_below _ _ _ c.if-f-n-3.true in
+    let operands : let node = c.node_at-f.result in let n = c.args.n in (node.a < n) × (node.b < n) = both_below _ _ _ c.if-f-n-3.true in
     let below = operands in omega arith
 
 pub value-value-y-requires : goal.value-value-y-requires
 value-value-y-requires t c =
-    let operands : let read = c in let node = read.node_at-f.result in let n = read.args.n in (node.a < n) × (node.b < n) = both_below _ _ _ c.if-f-n-3.true in
+    let operands : let node = c.node_at-f.result in let n = c.args.n in (node.a < n) × (node.b < n) = both_below _ _ _ c.if-f-n-3.true in
     let below = operands in omega arith
 
 pub value-returns-in-0 : goal.value-returns-in-0
 unfolding arith_by
 value-returns-in-0 t c =
-    let arm = c in constant-valued _ _ _ _ (arm.node_at-f.ensures.n_value ∙ constant-shape _ _ _ _ _ _ arm.in-0.is) (read_back c.struct_told-1.given.1.0.1)
+    constant-valued _ _ _ _ (c.node_at-f.ensures.n_value ∙ constant-shape _ _ _ _ _ _ c.in-0.is) (read_back c.struct_told-1.given.1.0.1)
 
 pub value-returns-in-1 : goal.value-returns-in-1
 unfolding arith_by
 value-returns-in-1 t c =
     let ends = c.struct_told-in-1-3-1.given.1 in
-    let top = c in
-    let arm = top in
-    input-valued _ _ _ _ (arm.node_at-f.ensures.n_value ∙ input-shape _ _ _ _ _ _ arm.in-1.is) (read_back ends.0.1) (read_back ends.1.0.1) (handed32 top.max32.ensures top.max32.type_inv)
+    input-valued _ _ _ _ (c.node_at-f.ensures.n_value ∙ input-shape _ _ _ _ _ _ c.in-1.is) (read_back ends.0.1) (read_back ends.1.0.1) (handed32 c.max32.ensures c.max32.type_inv)
 
 pub value-returns-in-2 : goal.value-returns-in-2
 unfolding arith_by
 value-returns-in-2 t c =
-    let arm = c in variable-valued _ _ _ _ (arm.node_at-f.ensures.n_value ∙ variable-shape _ _ _ _ _ _ arm.in-2.is) c.range_in.ensures
+    variable-valued _ _ _ _ (c.node_at-f.ensures.n_value ∙ variable-shape _ _ _ _ _ _ c.in-2.is) c.range_in.ensures
 
 pub value-returns-then-f-n : goal.value-returns-then-f-n
 unfolding arith_by
 value-returns-then-f-n t c =
-    let told = c in
-    let negated = told in
-    let valued = negated in
-    let test = valued in
-    let arm = test in
-    negation-valued _ _ _ _ (arm.node_at-f.ensures.n_value ∙ negation-below _ _ _ _ _ _ arm.in-3.is test.if-f-n.true) valued.value-x.ensures negated.negate.ensures told.mark_told.ensures
+    negation-valued _ _ _ _ (c.node_at-f.ensures.n_value ∙ negation-below _ _ _ _ _ _ c.in-3.is c.if-f-n.true) c.value-x.ensures c.negate.ensures c.mark_told.ensures
 
 pub value-returns-else-f-n : goal.value-returns-else-f-n
 unfolding arith_by
 value-returns-else-f-n t c =
-    let arm = c in no_value _ _ _ _ (arm.node_at-f.ensures.n_value ∙ negation-bad _ _ _ _ _ _ arm.in-3.is c.if-f-n.false) refl
+    no_value _ _ _ _ (c.node_at-f.ensures.n_value ∙ negation-bad _ _ _ _ _ _ c.in-3.is c.if-f-n.false) refl
 
 pub value-returns-then-f-n-2 : goal.value-returns-then-f-n-2
 unfolding arith_by
 value-returns-then-f-n-2 t c =
-    let chose = c in
-    let test = chose in
-    let arm = test in
-    choice-valued _ _ _ _ (arm.node_at-f.ensures.n_value ∙ choice-below _ _ _ _ _ _ arm.in-8.is test.if-f-n-2.true) chose.choose.ensures
+    choice-valued _ _ _ _ (c.node_at-f.ensures.n_value ∙ choice-below _ _ _ _ _ _ c.in-8.is c.if-f-n-2.true) c.choose.ensures
 
 pub value-returns-else-f-n-2 : goal.value-returns-else-f-n-2
 unfolding arith_by
 value-returns-else-f-n-2 t c =
-    let arm = c in no_value _ _ _ _ (arm.node_at-f.ensures.n_value ∙ choice-bad _ _ _ _ _ _ arm.in-8.is c.if-f-n-2.false) refl
+    no_value _ _ _ _ (c.node_at-f.ensures.n_value ∙ choice-bad _ _ _ _ _ _ c.in-8.is c.if-f-n-2.false) refl
 
 pub value-returns-in_default : goal.value-returns-in_default
 unfolding arith_by
 value-returns-in_default t c =
-    let arm = c in
-    let ((((((none, constant), input), variable), negation), remainder), choice) = arm.in_default.in_default-own.rest in
-    no_value _ _ _ _ arm.node_at-f.ensures.n_value (no-arith _ _ _ _ _ _ _ _ _ constant variable (leaf-high c.in_default.if-k-lt8-own.false choice remainder))
+    let ((((((none, constant), input), variable), negation), remainder), choice) = c.in_default.in_default-own.rest in
+    no_value _ _ _ _ c.node_at-f.ensures.n_value (no-arith _ _ _ _ _ _ _ _ _ constant variable (leaf-high c.in_default.if-k-lt8-own.false choice remainder))
 
 pub value-returns-then-f-n-3 : goal.value-returns-then-f-n-3
 unfolding arith_by
 value-returns-then-f-n-3 t c =
     let operates : Operates c.node_at-f.result.kind = elim c.in-4-to-7-1.branch [ value-in-9-1 w ↦ omega arith | value-in_default+then-k-lt8 w ↦ omega arith ] in
-    let told = c in
-    let operated = told in
-    let op = operated in
-    let right = op in
-    let left = right in
-    let test = left in
-    let arm = test in
-    binary-valued _ _ _ _ (arm.node_at-f.ensures.n_value ∙ operation-below _ _ _ _ _ _ op.operation_of.ensures operates test.if-f-n-3.true) left.value-x-then-f-n-3.ensures right.value-y.ensures operated.operate.ensures told.mark_told-then-f-n-3.ensures
+    binary-valued _ _ _ _ (c.node_at-f.ensures.n_value ∙ operation-below _ _ _ _ _ _ c.operation_of.ensures operates c.if-f-n-3.true) c.value-x-then-f-n-3.ensures c.value-y.ensures c.operate.ensures c.mark_told-then-f-n-3.ensures
 
 pub value-returns-else-f-n-3 : goal.value-returns-else-f-n-3
 unfolding arith_by
 value-returns-else-f-n-3 t c =
     let operates : Operates c.node_at-f.result.kind = elim c.in-4-to-7-1.branch [ value-in-9-1 w ↦ omega arith | value-in_default+then-k-lt8 w ↦ omega arith ] in
-    let arm = c in no_value _ _ _ _ (arm.node_at-f.ensures.n_value ∙ operation-bad _ _ _ _ _ _ operates c.if-f-n-3.false) refl
+    no_value _ _ _ _ (c.node_at-f.ensures.n_value ∙ operation-bad _ _ _ _ _ _ operates c.if-f-n-3.false) refl

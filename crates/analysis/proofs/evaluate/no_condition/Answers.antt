@@ -24,12 +24,10 @@ returns-then-asked c =
 pub returns : goal.returns
 unfolding maybe_by
 returns c =
-    let test = c in
-    let start = test in
-    let copied = start.requires (ap not test.if-asked.false) in
+    let copied = c.requires (ap not c.if-asked.false) in
     record {
       copy_if = λ e. copied;
       decision_value = refl;
       narrowed_value = refl;
-      joined_after = add-alone (row_in start.args.joined.now) _ test.if-asked.false (ap (λ (ws : List ℤ). maybe_by start.args.asked.truth (row_in ws)) copied);
+      joined_after = add-alone (row_in c.args.joined.now) _ c.if-asked.false (ap (λ (ws : List ℤ). maybe_by c.args.asked.truth (row_in ws)) copied);
     }

@@ -2,16 +2,14 @@
 -- Assumes nothing.
 use mathlib.Core.Path.{ap, ◌∙◌}
 use Rattle.analysis.specs.Arrays.{left_of}
-use Rattle.analysis.proofs.WalkLaws.{sides-of, split-is}
+use Rattle.analysis.proofs.WalkLaws.{sides-of, splits-of, split-is}
 use Rattle.analysis.proofs.evaluate.sides.Goals as goal
 
 pub returns : goal.returns
 returns c =
-    let no = c in
-    let yes = no in
-    let said = sides-of _ _ _ _ yes.split-s.ensures.said in record {
+    let said = sides-of _ _ _ _ (splits-of _ _ _ _ _ _ _ c.split-s.ensures) in record {
       value = split-is _ _ _ _ _ said.0 said.1.0 said.1.1.0;
-      yes_after = yes.clear_unless.ensures ∙ ap left_of said.1.0;
-      no_after = no.clear_unless-2.ensures ∙ ap left_of said.1.1.0;
+      yes_after = c.clear_unless.ensures ∙ ap left_of said.1.0;
+      no_after = c.clear_unless-2.ensures ∙ ap left_of said.1.1.0;
       marks_after = said.1.1.1;
     }

@@ -13,14 +13,12 @@ returns-then-kind_at-ne22 t c =
 
 pub bare-b-requires : goal.bare-b-requires
 bare-b-requires t c =
-    let arm = c in let below = children-of _ _ (sym arm.shape_at-shape.ensures ∙ arm.in-Not.is) in omega arith
+    let below = children-of _ _ (sym c.shape_at-shape.ensures ∙ c.in-Not.is) in omega arith
 
 pub returns-in-Not : goal.returns-in-Not
 returns-in-Not t c =
-    let under = c in
-    let arm = under in
-    let shape = sym arm.shape_at-shape.ensures ∙ arm.in-Not.is in
-    laws.bare-below _ _ _ shape (children-of _ _ shape) under.bare-b.ensures
+    let shape = sym c.shape_at-shape.ensures ∙ c.in-Not.is in
+    laws.bare-below _ _ _ shape (children-of _ _ shape) c.bare-b.ensures
 
 pub returns-in_default : goal.returns-in_default
 returns-in_default t c =

@@ -12,54 +12,34 @@ use Rattle.analysis.proofs.narrow.add_cuts.Goals as goal
 
 pub returns-in_default : goal.returns-in_default
 returns-in_default c =
-    let start = c in
-    let given = start.args in
-    record { copy_if_2 = start.requires.copy_if; row_after = join-first-none _ given.from.now given.v given.w given.u c.in_default.is }
+    let given = c.args in
+    record { copy_if_2 = c.requires.copy_if; row_after = join-first-none _ given.from.now given.v given.w given.u c.in_default.is }
 
 pub returns-in_default-last : goal.returns-in_default-last
 returns-in_default-last c =
-    let left = c in
-    let met = left in
-    let whole = met in
-    let start = whole in
-    let given = start.args in record { copy_if_2 = start.requires.copy_if; row_after = join-last-none _ given.from.now given.v given.w given.u whole.more-1.given start.requires.v_bound left.in-Between.is (sym met.met_if-last.ensures ∙ c.in_default-last.is) }
+    let given = c.args in record { copy_if_2 = c.requires.copy_if; row_after = join-last-none _ given.from.now given.v given.w given.u c.more-1.given c.requires.v_bound c.in-Between.is (sym c.met_if-last.ensures ∙ c.in_default-last.is) }
 
 pub returns-then-some : goal.returns-then-some
 unfolding maybe_by
 returns-then-some c =
-    let test = c in
-    let told₂ = test in
-    let matched₂ = told₂ in
-    let told = matched₂ in
-    let matched = told in
-    let met = matched in
-    let whole = met in
-    let start = whole in
-    let given = start.args in
-    let low = read_back {z = matched.in-Between.a} told.in-Between.known_told-1-own.given.0.1 in
-    let high = read_back {z = matched.in-Between.b} told.in-Between.known_told-1-own.given.1.0.1 in
-    let low₂ = read_back {z = matched₂.in-Between-last.c} told₂.in-Between-last.known_told-in-Between-last-1-own.given.0.1 in
-    let high₂ = read_back {z = matched₂.in-Between-last.d} told₂.in-Between-last.known_told-in-Between-last-1-own.given.1.0.1 in record {
+    let given = c.args in
+    let low = read_back {z = c.in-Between.a} c.in-Between.known_told-1-own.given.0.1 in
+    let high = read_back {z = c.in-Between.b} c.in-Between.known_told-1-own.given.1.0.1 in
+    let low₂ = read_back {z = c.in-Between-last.c} c.in-Between-last.known_told-in-Between-last-1-own.given.0.1 in
+    let high₂ = read_back {z = c.in-Between-last.d} c.in-Between-last.known_told-in-Between-last-1-own.given.1.0.1 in record {
       copy_if_2 = λ e. clash (sym e);
-      row_after = join-cuts _ given.from.now given.v given.w given.u whole.more-1.given start.requires.v_bound matched.in-Between.is
-          (sym met.met_if-last.ensures ∙ matched₂.in-Between-last.is)
-          (add-to _ _ test.if-some.true (rw (low, high, low₂, high₂) at c.widen_cut.ensures));
+      row_after = join-cuts _ given.from.now given.v given.w given.u c.more-1.given c.requires.v_bound c.in-Between.is
+          (sym c.met_if-last.ensures ∙ c.in-Between-last.is)
+          (add-to _ _ c.if-some.true (rw (low, high, low₂, high₂) at c.widen_cut.ensures));
     }
 
 pub returns : goal.returns
 unfolding maybe_by
 returns c =
-    let first = c in
-    let test = first in
-    let matched₂ = test in
-    let matched = matched₂ in
-    let met = matched in
-    let whole = met in
-    let start = whole in
-    let given = start.args in record {
+    let given = c.args in record {
       copy_if_2 = λ e. clash (sym e);
-      row_after = join-cuts _ given.from.now given.v given.w given.u whole.more-1.given start.requires.v_bound matched.in-Between.is
-          (sym met.met_if-last.ensures ∙ matched₂.in-Between-last.is)
-          (add-alone (row_in given.row.now) _ test.if-some.false
-          (put_both _ _ _ given.v given.w _ _ _ _ first.put.result c.put-2.result (ap row_in (start.requires.copy_if (ap not test.if-some.false))) first.put.ensures c.put-2.ensures));
+      row_after = join-cuts _ given.from.now given.v given.w given.u c.more-1.given c.requires.v_bound c.in-Between.is
+          (sym c.met_if-last.ensures ∙ c.in-Between-last.is)
+          (add-alone (row_in given.row.now) _ c.if-some.false
+          (put_both _ _ _ given.v given.w _ _ _ _ c.put.result c.put-2.result (ap row_in (c.requires.copy_if (ap not c.if-some.false))) c.put.ensures c.put-2.ensures));
     }

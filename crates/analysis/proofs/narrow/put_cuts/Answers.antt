@@ -9,12 +9,8 @@ returns-then-not-put c =
 
 pub returns-then-v-w : goal.returns-then-v-w
 returns-then-v-w c =
-    let same = c in
-    let first = same in
-    cut-same _ _ _ _ _ _ first.put.ensures first.if-not-put.false same.if-v-w.true c.meet_at.ensures
+    cut-same _ _ _ _ _ _ c.put.ensures c.if-not-put.false c.if-v-w.true c.meet_at.ensures
 
 pub returns : goal.returns
 returns c =
-    let other = c in
-    let first = other in
-    cut-other _ _ _ _ _ _ first.put.ensures first.if-not-put.false other.if-v-w.false c.put-2.ensures
+    cut-other _ _ _ _ _ _ c.put.ensures c.if-not-put.false c.if-v-w.false c.put-2.ensures

@@ -7,13 +7,11 @@ use Rattle.analysis.proofs.narrow.variable_or.Goals as goal
 
 pub returns-then-f-lt16 : goal.returns-then-f-lt16
 returns-then-f-lt16 c =
-    let arm = c in
-    sym (variable-is _ _ _ (arm.node_at-f.ensures.n_value ∙ variable-shape _ _ _ _ _ _ arm.in-2.is) c.if-f-lt16.true)
+    sym (variable-is _ _ _ (c.node_at-f.ensures.n_value ∙ variable-shape _ _ _ _ _ _ c.in-2.is) c.if-f-lt16.true)
 
 pub returns-else-f-lt16 : goal.returns-else-f-lt16
 returns-else-f-lt16 c =
-    let arm = c in
-    sym (variable-past _ _ _ (arm.node_at-f.ensures.n_value ∙ variable-shape _ _ _ _ _ _ arm.in-2.is) c.if-f-lt16.false)
+    sym (variable-past _ _ _ (c.node_at-f.ensures.n_value ∙ variable-shape _ _ _ _ _ _ c.in-2.is) c.if-f-lt16.false)
 
 pub returns-in_default : goal.returns-in_default
 returns-in_default c =

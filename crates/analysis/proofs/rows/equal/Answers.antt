@@ -19,21 +19,13 @@ of_words p q e = rw (to_z-of_z p, to_z-of_z q) at e
 
 pub returns-then-not-same : goal.returns-then-not-same
 returns-then-not-same c =
-    let test = c in
-    let second = test in
-    let first = second in
-    let turn = first in
-    let same = of_words (ok32 _ first.same-arg-1.given) (ok32 _ second.same-arg-in-loop-i-1.given) test.same.ensures in
-    sym (fails-at _ _ _ turn.loop-i-test.true (fails same c.if-not-same.true))
+    let same = of_words (ok32 _ c.same-arg-1.given) (ok32 _ c.same-arg-in-loop-i-1.given) c.same.ensures in
+    sym (fails-at _ _ _ c.loop-i-test.true (fails same c.if-not-same.true))
 
 pub loop-i-preserved : goal.loop-i-preserved
 loop-i-preserved c =
-    let test = c in
-    let second = test in
-    let first = second in
-    let turn = first in
-    let same = of_words (ok32 _ first.same-arg-1.given) (ok32 _ second.same-arg-in-loop-i-1.given) test.same.ensures in
-    checks turn.loop-i.invariant turn.loop-i-test.true (holds same c.if-not-same.false)
+    let same = of_words (ok32 _ c.same-arg-1.given) (ok32 _ c.same-arg-in-loop-i-1.given) c.same.ensures in
+    checks c.loop-i.invariant c.loop-i-test.true (holds same c.if-not-same.false)
 
 pub loop-i-init : goal.loop-i-init
 loop-i-init c =
@@ -45,7 +37,7 @@ bounds-a-i c =
 
 pub bounds-b-i : goal.bounds-b-i
 bounds-b-i c =
-    let turn = c in omega (arith, turn.requires.1, turn.loop-i-test.true)
+    omega (arith, c.requires.1, c.loop-i-test.true)
 
 pub returns : goal.returns
 returns c =

@@ -9,10 +9,8 @@ use Rattle.analysis.proofs.rows.outer.Goals as goal
 
 pub returns-then-i-lt16 : goal.returns-then-i-lt16
 returns-then-i-lt16 c =
-    let start = c in
-    through-bits min_z start.ranges.x start.ranges.y (ok32 _ c.min32.type_inv) c.min32.ensures ∙ outer-low _ _ _ c.if-i-lt16.true
+    through-bits min_z c.ranges.x c.ranges.y (ok32 _ c.min32.type_inv) c.min32.ensures ∙ outer-low _ _ _ c.if-i-lt16.true
 
 pub returns-else-i-lt16 : goal.returns-else-i-lt16
 returns-else-i-lt16 c =
-    let start = c in
-    through-bits max_z start.ranges.x start.ranges.y (ok32 _ c.max32.type_inv) c.max32.ensures ∙ outer-high _ _ _ c.if-i-lt16.false
+    through-bits max_z c.ranges.x c.ranges.y (ok32 _ c.max32.type_inv) c.max32.ensures ∙ outer-high _ _ _ c.if-i-lt16.false

@@ -14,14 +14,10 @@ part-few ws e = rw e (few ws)
 
 pub returns : goal.returns
 returns c =
-    let second = c in
-    let highs = second in
-    let first = highs in
-    let lows = first in
-    let args = lows.args in
+    let args = c.args in
     own_in args.lows.now args.highs.now (replicate 32 (pos 0)) _ _ (zeros 32) refl
-    (rw lows.part.ensures at first.put_ends.ensures)
-    (rw highs.part-2.ensures at second.put_ends-2.ensures)
+    (rw c.part.ensures at c.put_ends.ensures)
+    (rw c.part-2.ensures at c.put_ends-2.ensures)
 
 pub slice_bounds-put_ends-end : goal.slice_bounds-put_ends-end
 slice_bounds-put_ends-end c =
@@ -34,12 +30,11 @@ put_ends-requires c =
 pub slice_bounds-put_ends-end-2 : goal.slice_bounds-put_ends-end-2
 slice_bounds-put_ends-end-2 c =
     let long : length c.put_ends.new.row ≡ 32 =
-    let lows = c in let args = lows.args in low-room args.lows.now args.highs.now (replicate 32 (pos 0)) _ [] (zeros 32) refl (rw lows.part.ensures at c.put_ends.ensures) in
+    let args = c.args in low-room args.lows.now args.highs.now (replicate 32 (pos 0)) _ [] (zeros 32) refl (rw c.part.ensures at c.put_ends.ensures) in
     sym long
 
 pub put_ends-requires-2 : goal.put_ends-requires-2
 put_ends-requires-2 c =
     let long : length c.put_ends.new.row ≡ 32 =
-    let lows = c in let args = lows.args in low-room args.lows.now args.highs.now (replicate 32 (pos 0)) _ [] (zeros 32) refl (rw lows.part.ensures at c.put_ends.ensures) in
-    let first = c in
-    (long, omega arith, part-few first.args.highs.now c.part-2.ensures)
+    let args = c.args in low-room args.lows.now args.highs.now (replicate 32 (pos 0)) _ [] (zeros 32) refl (rw c.part.ensures at c.put_ends.ensures) in
+    (long, omega arith, part-few c.args.highs.now c.part-2.ensures)

@@ -14,16 +14,14 @@ use Rattle.analysis.proofs.rows.put.Goals as goal
 pub returns-then-v-lt16 : goal.returns-then-v-lt16
 unfolding maybe_by put_of
 returns-then-v-lt16 c =
-    let start = c in
     let a-fits : SFits w32 c.in-Between.a = search rules in
     let b-fits : SFits w32 c.in-Between.b = search rules in
-    rw (c.in-Between.is, to_z-of_z a-fits, to_z-of_z b-fits) (ap some (put_in start.args.row.now start.args.v c.in-Between.a c.in-Between.b c.if-v-lt16.true))
+    rw (c.in-Between.is, to_z-of_z a-fits, to_z-of_z b-fits) (ap some (put_in c.args.row.now c.args.v c.in-Between.a c.in-Between.b c.if-v-lt16.true))
 
 pub returns-else-v-lt16 : goal.returns-else-v-lt16
 unfolding maybe_by put_of
 returns-else-v-lt16 c =
-    let start = c in
-    rw c.in-Between.is (ap some (put-past start.args.row.now start.args.v c.in-Between.a c.in-Between.b c.if-v-lt16.false))
+    rw c.in-Between.is (ap some (put-past c.args.row.now c.args.v c.in-Between.a c.in-Between.b c.if-v-lt16.false))
 
 pub enum_known-s : goal.enum_known-s
 unfolding maybe_by put_of
@@ -43,4 +41,4 @@ returns-in_default c =
 pub bounds-row-v-then-v-lt16 : goal.bounds-row-v-then-v-lt16
 unfolding maybe_by put_of
 bounds-row-v-then-v-lt16 c =
-    let start = c in simp length-set (omega (arith, start.requires, c.if-v-lt16.true))
+    simp length-set (omega (arith, c.requires, c.if-v-lt16.true))

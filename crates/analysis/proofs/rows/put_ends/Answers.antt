@@ -12,17 +12,16 @@ loop-i-init c =
 
 pub overflow_add-at : goal.overflow_add-at
 overflow_add-at c =
-    let turn = c in let pre = turn.requires in omega (arith, pre.1, pre.2, turn.loop-i-test.true)
+    let pre = c.requires in omega (arith, pre.1, pre.2, c.loop-i-test.true)
 
 pub offset_bounds-row-at : goal.offset_bounds-row-at
 offset_bounds-row-at c =
-    let turn = c in let pre = turn.requires in omega (arith, pre.1, pre.2, turn.loop-i-test.true)
+    let pre = c.requires in omega (arith, pre.1, pre.2, c.loop-i-test.true)
 
 pub bounds-row-at : goal.bounds-row-at
 bounds-row-at c =
-    let turn = c in
-    let pre = turn.requires in
-    omega (arith, pasted_length turn.loop-i.invariant (omega (arith, pre.0, pre.1, pre.2)), pre.0, pre.1, pre.2, turn.loop-i-test.true)
+    let pre = c.requires in
+    omega (arith, pasted_length c.loop-i.invariant (omega (arith, pre.0, pre.1, pre.2)), pre.0, pre.1, pre.2, c.loop-i-test.true)
 
 pub loop-i-smaller : goal.loop-i-smaller
 loop-i-smaller c =
@@ -30,9 +29,8 @@ loop-i-smaller c =
 
 pub loop-i-preserved : goal.loop-i-preserved
 loop-i-preserved c =
-    let turn = c in
-    let pre = turn.requires in
-    paste-next turn.loop-i.invariant (omega (arith, pre.0, pre.1, pre.2, turn.loop-i-test.true)) turn.loop-i-test.true (to_z-of_z (ok32 _ c.row-1.given))
+    let pre = c.requires in
+    paste-next c.loop-i.invariant (omega (arith, pre.0, pre.1, pre.2, c.loop-i-test.true)) c.loop-i-test.true (to_z-of_z (ok32 _ c.row-1.given))
 
 pub shape_of-row : goal.shape_of-row
 shape_of-row c =

@@ -5,6 +5,4 @@ use Rattle.analysis.proofs.rows.range.Goals as goal
 
 pub returns : goal.returns
 returns c =
-    let high = c in
-    let low = high in
-    rw (handed32 low.word.ensures low.word.type_inv, handed32 high.word-2.ensures high.word-2.type_inv) at c.between.ensures
+    rw (handed32 c.word.ensures c.word.type_inv, handed32 c.word-2.ensures c.word-2.type_inv) at c.between.ensures

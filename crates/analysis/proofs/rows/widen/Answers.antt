@@ -12,13 +12,10 @@ use Rattle.analysis.proofs.rows.widen.Goals as goal
 
 pub loop-i-preserved : goal.loop-i-preserved
 loop-i-preserved c =
-    let second = c in
-    let first = second in
-    let turn = first in
-    let given = turn.args in
-    fills turn.loop-i.invariant turn.loop-i-test.true
-    (through-bits (outer_of turn.loop-i.i) (ok32 _ first.outer-arg-1.given) (ok32 _ second.outer-arg-in-loop-i-1.given) (ok32 _ c.outer.type_inv) c.outer.ensures
-    ∙ together-next given.row.now given.more.now turn.loop-i.invariant)
+    let given = c.args in
+    fills c.loop-i.invariant c.loop-i-test.true
+    (through-bits (outer_of c.loop-i.i) (ok32 _ c.outer-arg-1.given) (ok32 _ c.outer-arg-in-loop-i-1.given) (ok32 _ c.outer.type_inv) c.outer.ensures
+    ∙ together-next given.row.now given.more.now c.loop-i.invariant)
 
 pub loop-i-init : goal.loop-i-init
 loop-i-init c =
@@ -30,11 +27,11 @@ slice_copy_out-outer c =
 
 pub bounds-more-i : goal.bounds-more-i
 bounds-more-i c =
-    let turn = c in omega (arith, turn.requires.1, turn.loop-i-test.true)
+    omega (arith, c.requires.1, c.loop-i-test.true)
 
 pub bounds-row-i : goal.bounds-row-i
 bounds-row-i c =
-    let turn = c in omega (arith, kept turn.loop-i.invariant, turn.requires.0, turn.loop-i-test.true)
+    omega (arith, kept c.loop-i.invariant, c.requires.0, c.loop-i-test.true)
 
 pub shape_of-row : goal.shape_of-row
 shape_of-row c =
@@ -42,5 +39,4 @@ shape_of-row c =
 
 pub returns : goal.returns
 returns c =
-    let start = c in
-    ap (λ l. some (row_in l)) (filled-whole c.loop-i.invariant c.loop-i-test.false start.requires.0) ∙ together-in start.args.row.now start.args.more.now start.requires.0 start.requires.1
+    ap (λ l. some (row_in l)) (filled-whole c.loop-i.invariant c.loop-i-test.false c.requires.0) ∙ together-in c.args.row.now c.args.more.now c.requires.0 c.requires.1

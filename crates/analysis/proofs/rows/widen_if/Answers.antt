@@ -10,4 +10,4 @@ returns-then-not-there c = rw c.if-not-there.true (join-none _)
 
 pub returns : goal.returns
 unfolding maybe_by
-returns c = let test = c in rw test.if-not-there.false c.widen.ensures
+returns c = rw c.if-not-there.false c.widen.ensures

@@ -10,14 +10,10 @@ use Rattle.analysis.proofs.rows.widened_at.Goals as goal
 
 pub returns : goal.returns
 returns c =
-    let high = c in
-    let least = high in
-    let low = least in
-    let start = low in
-    let v = start.args.v in
+    let v = c.args.v in
     rw (
-      through-bits min_z (ok32 _ low.word.type_inv) start.ranges.a (ok32 _ least.min32-low.type_inv) least.min32-low.ensures
-          ∙ ap (λ (z : ℤ). min_z z start.args.a) (low.word.ensures ∙ ap (λ (l : List ℤ). word_of l v) low.low_ends.ensures),
-      through-bits max_z (ok32 _ high.word-2.type_inv) start.ranges.b (ok32 _ c.max32-high.type_inv) c.max32-high.ensures
-          ∙ ap (λ (z : ℤ). max_z z start.args.b) (high.word-2.ensures ∙ ap (λ (l : List ℤ). word_of l v) high.high_ends.ensures),
+      through-bits min_z (ok32 _ c.word.type_inv) c.ranges.a (ok32 _ c.min32-low.type_inv) c.min32-low.ensures
+          ∙ ap (λ (z : ℤ). min_z z c.args.a) (c.word.ensures ∙ ap (λ (l : List ℤ). word_of l v) c.low_ends.ensures),
+      through-bits max_z (ok32 _ c.word-2.type_inv) c.ranges.b (ok32 _ c.max32-high.type_inv) c.max32-high.ensures
+          ∙ ap (λ (z : ℤ). max_z z c.args.b) (c.word-2.ensures ∙ ap (λ (l : List ℤ). word_of l v) c.high_ends.ensures),
     )

@@ -8,9 +8,8 @@ pub returns-then-d-ge1 : goal.returns-then-d-ge1
 unfolding above_of
 returns-then-d-ge1 c =
     let low = c.max32 in
-    let s = c in
-    let f = s.ranges in
-    let test = simp (to_z-of_z, f.d) at s.if-d-ge1.true in
+    let f = c.ranges in
+    let test = simp (to_z-of_z, f.d) at c.if-d-ge1.true in
     simp (test, c.quotients.ensures, handed32 low.ensures low.type_inv, to_z-of_z, f.a, f.b, f.c, f.d)
 
 pub returns-else-d-ge1 : goal.returns-else-d-ge1

@@ -8,9 +8,8 @@ pub returns-then-c-leminus1 : goal.returns-then-c-leminus1
 unfolding below_of
 returns-then-c-leminus1 c =
     let high = c.min32 in
-    let s = c in
-    let f = s.ranges in
-    let test = simp (to_z-of_z, f.c) at s.if-c-leminus1.true in
+    let f = c.ranges in
+    let test = simp (to_z-of_z, f.c) at c.if-c-leminus1.true in
     simp (test, c.quotients.ensures, handed32 high.ensures high.type_inv, to_z-of_z, f.a, f.b, f.c, f.d)
 
 pub returns-else-c-leminus1 : goal.returns-else-c-leminus1

@@ -20,10 +20,8 @@ unfolding either_part_of
 returns-in-Pair-v c =
     let low = c.min64 in
     let high = c.max64 in
-    let right = c in
-    let left = right in
-    let fa = ok64 left.in-Pair.a left.in-Pair.known_told-1-own.given.0.1 in
-    let fb = ok64 left.in-Pair.b left.in-Pair.known_told-1-own.given.1.0.1 in
-    let fc = ok64 right.in-Pair-v.c right.in-Pair-v.known_told-in-Pair-1-own.given.0.1 in
-    let fd = ok64 right.in-Pair-v.d right.in-Pair-v.known_told-in-Pair-1-own.given.1.0.1 in
-    rw (left.in-Pair.is, right.in-Pair-v.is) (handed-pair low.ensures low.type_inv high.ensures high.type_inv ∙ simp to_z-of_z)
+    let fa = ok64 c.in-Pair.a c.in-Pair.known_told-1-own.given.0.1 in
+    let fb = ok64 c.in-Pair.b c.in-Pair.known_told-1-own.given.1.0.1 in
+    let fc = ok64 c.in-Pair-v.c c.in-Pair-v.known_told-in-Pair-1-own.given.0.1 in
+    let fd = ok64 c.in-Pair-v.d c.in-Pair-v.known_told-in-Pair-1-own.given.1.0.1 in
+    rw (c.in-Pair.is, c.in-Pair-v.is) (handed-pair low.ensures low.type_inv high.ensures high.type_inv ∙ simp to_z-of_z)

@@ -14,7 +14,6 @@ unfolding negate_of
 returns c =
     let low = c.negative in
     let high = c.negative-2 in
-    let k = c in
-    let x = taken_as _ k.in-Between.a k.in-Between.b k.taken.ensures k.in-Between.is k.in-Between.known_told-1-own.given.0.1 k.in-Between.known_told-1-own.given.1.0.1 in
+    let x = taken_as _ c.in-Between.a c.in-Between.b c.taken.ensures c.in-Between.is c.in-Between.known_told-1-own.given.0.1 c.in-Between.known_told-1-own.given.1.0.1 in
     with-ends _ _ x
     (rw (ends-negation _ _ (words-ordered x), c.computed.ensures, handed-pair low.ensures low.type_inv high.ensures high.type_inv))

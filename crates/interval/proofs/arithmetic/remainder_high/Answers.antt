@@ -10,9 +10,8 @@ returns-then-b-gt0 c =
     let end = c.min64 in
     let most = c.widen-then-b-gt0 in
     let high = c.widen in
-    let arm = c in
-    let f = arm.ranges in
-    let test = simp (to_z-of_z, f.b) at arm.if-b-gt0.true in
+    let f = c.ranges in
+    let test = simp (to_z-of_z, f.b) at c.if-b-gt0.true in
     simp (test, handed64 end.ensures end.type_inv, handed64 high.ensures high.type_inv, handed64 most.ensures most.type_inv, to_z-of_z, f.b, f.most)
 
 pub returns-else-b-gt0 : goal.returns-else-b-gt0

@@ -10,9 +10,8 @@ returns-then-a-lt0 c =
     let end = c.max64 in
     let most = c.negative in
     let low = c.widen in
-    let arm = c in
-    let f = arm.ranges in
-    let test = simp (to_z-of_z, f.a) at arm.if-a-lt0.true in
+    let f = c.ranges in
+    let test = simp (to_z-of_z, f.a) at c.if-a-lt0.true in
     simp (test, handed64 end.ensures end.type_inv, handed64 low.ensures low.type_inv, handed64 most.ensures most.type_inv, to_z-of_z, f.a, f.most)
 
 pub returns-else-a-lt0 : goal.returns-else-a-lt0

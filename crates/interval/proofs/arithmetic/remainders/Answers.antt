@@ -17,10 +17,9 @@ pub returns : goal.returns
 unfolding remainders_of
 returns c =
     let most = c.largest-most in
-    let arm = c in
-    let high = arm.same-2 in
-    let low = arm.same in
-    let f = arm.ranges in
-    let test = simp (low.ensures, high.ensures, to_z-of_z, f.c, f.d) at arm.if-same.false in
+    let high = c.same-2 in
+    let low = c.same in
+    let f = c.ranges in
+    let test = simp (low.ensures, high.ensures, to_z-of_z, f.c, f.d) at c.if-same.false in
     rw (handed-pair c.remainder_low.ensures c.remainder_low.type_inv c.remainder_high.ensures c.remainder_high.type_inv)
     (simp (test, handed32 most.ensures most.type_inv, to_z-of_z, f.a, f.b, f.c, f.d))

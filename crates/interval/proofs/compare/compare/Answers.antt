@@ -9,23 +9,18 @@ use Rattle.interval.proofs.compare.compare.Goals as goal
 pub returns-in_default : goal.returns-in_default
 unfolding compare_of
 returns-in_default c =
-    let x = c in
-    c.neither.ensures ∙ sym (taken_none _ _ _ (sym x.taken.ensures ∙ x.in_default.is))
+    c.neither.ensures ∙ sym (taken_none _ _ _ (sym c.taken.ensures ∙ c.in_default.is))
 
 pub returns-in_default-taken : goal.returns-in_default-taken
 unfolding compare_of
 returns-in_default-taken c =
-    let y = c in
-    let x = y in
-    let x-ends = sym x.taken.ensures ∙ x.in-Between.is in
-    let y-none = sym y.taken-2.ensures ∙ c.in_default-taken.is in
+    let x-ends = sym c.taken.ensures ∙ c.in-Between.is in
+    let y-none = sym c.taken-2.ensures ∙ c.in_default-taken.is in
     rw (taken-ends _ _ _ _ _ x-ends, taken_none _ _ _ y-none) c.neither-in_default-taken.ensures
 
 pub returns : goal.returns
 unfolding compare_of
 returns c =
-    let y = c in
-    let x = y in
-    let x-ends = sym x.taken.ensures ∙ x.in-Between.is in
-    let y-ends = sym y.taken-2.ensures ∙ y.in-Between-taken.is in
+    let x-ends = sym c.taken.ensures ∙ c.in-Between.is in
+    let y-ends = sym c.taken-2.ensures ∙ c.in-Between-taken.is in
     rw (taken-ends _ _ _ _ _ x-ends, taken-ends _ _ _ _ _ y-ends) (search (rules, c.decide.ensures))

@@ -12,6 +12,5 @@ nonzero_rem-result c = let f = c.ranges in division-fits f.a f.b c.if-b-eq0.fals
 
 pub returns-then-b-eq0 : goal.returns-then-b-eq0
 returns-then-b-eq0 c =
-    let s = c in
-    let f = s.ranges in
-    rw (handed64 c.widen.ensures c.widen.type_inv, bits-eq {b = pos 0} f.b (search rules) s.if-b-eq0.true, rem-zero s.args.a) (to_z-of_z f.a)
+    let f = c.ranges in
+    rw (handed64 c.widen.ensures c.widen.type_inv, bits-eq {b = pos 0} f.b (search rules) c.if-b-eq0.true, rem-zero c.args.a) (to_z-of_z f.a)

@@ -12,26 +12,20 @@ use Rattle.interval.proofs.lattice.join.Goals as goal
 pub returns-in_default : goal.returns-in_default
 unfolding join_of
 returns-in_default c =
-    let x = c in
-    c.taken-in_default.ensures ∙ sym (taken_none _ _ _ (sym x.taken.ensures ∙ x.in_default.is))
+    c.taken-in_default.ensures ∙ sym (taken_none _ _ _ (sym c.taken.ensures ∙ c.in_default.is))
 
 pub returns-in_default-taken : goal.returns-in_default-taken
 unfolding join_of
 returns-in_default-taken c =
-    let y = c in
-    let x = y in
-    let x-ends = sym x.taken.ensures ∙ x.in-Between.is in
-    let y-none = sym y.taken-2.ensures ∙ c.in_default-taken.is in
+    let x-ends = sym c.taken.ensures ∙ c.in-Between.is in
+    let y-none = sym c.taken-2.ensures ∙ c.in_default-taken.is in
     rw (taken-ends _ _ _ _ _ x-ends, taken_none _ _ _ y-none) (search rules)
 
 pub returns : goal.returns
 unfolding join_of
 returns c =
-    let low = c in
-    let y = low in
-    let x = y in
-    let x-ends = sym x.taken.ensures ∙ x.in-Between.is in
-    let y-ends = sym y.taken-2.ensures ∙ y.in-Between-taken.is in
-    let low_fits : SFits w32 low.min32.result = search rules in
+    let x-ends = sym c.taken.ensures ∙ c.in-Between.is in
+    let y-ends = sym c.taken-2.ensures ∙ c.in-Between-taken.is in
+    let low_fits : SFits w32 c.min32.result = search rules in
     let high_fits : SFits w32 c.max32.result = search rules in
-    rw (taken-ends _ _ _ _ _ x-ends, taken-ends _ _ _ _ _ y-ends) (simp to_z-of_z (search (rules, low.min32.ensures, c.max32.ensures)))
+    rw (taken-ends _ _ _ _ _ x-ends, taken-ends _ _ _ _ _ y-ends) (simp to_z-of_z (search (rules, c.min32.ensures, c.max32.ensures)))

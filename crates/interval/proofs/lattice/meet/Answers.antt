@@ -16,24 +16,17 @@ returns-in_default c = sym (taken_none _ _ _ (sym c.taken.ensures ∙ c.in_defau
 pub returns-in_default-taken : goal.returns-in_default-taken
 unfolding meet_of
 returns-in_default-taken c =
-    let y = c in
-    let x = y in
-    let x-ends = sym x.taken.ensures ∙ x.in-Between.is in
-    let y-none = sym y.taken-2.ensures ∙ c.in_default-taken.is in
+    let x-ends = sym c.taken.ensures ∙ c.in-Between.is in
+    let y-none = sym c.taken-2.ensures ∙ c.in_default-taken.is in
     rw (taken-ends _ _ _ _ _ x-ends, taken_none _ _ _ y-none)
 
 -- x_Fits, that the ends of x fit, is bound since it lies too far back for `search` to find
 pub returns : goal.returns
 unfolding meet_of
 returns c =
-    let high = c in
-    let low = high in
-    let y = low in
-    let x-told = y in
-    let x = x-told in
-    let x-ends = sym x.taken.ensures ∙ x.in-Between.is in
-    let y-ends = sym y.taken-2.ensures ∙ y.in-Between-taken.is in
-    let low_fits : SFits w32 low.max32.result = search rules in
-    let high_fits : SFits w32 high.min32.result = search rules in
+    let x-ends = sym c.taken.ensures ∙ c.in-Between.is in
+    let y-ends = sym c.taken-2.ensures ∙ c.in-Between-taken.is in
+    let low_fits : SFits w32 c.max32.result = search rules in
+    let high_fits : SFits w32 c.min32.result = search rules in
     let r = simp to_z-of_z at c.between.ensures in
-    rw (taken-ends _ _ _ _ _ x-ends, taken-ends _ _ _ _ _ y-ends) (search (rules, r, low.max32.ensures, high.min32.ensures))
+    rw (taken-ends _ _ _ _ _ x-ends, taken-ends _ _ _ _ _ y-ends) (search (rules, r, c.max32.ensures, c.min32.ensures))

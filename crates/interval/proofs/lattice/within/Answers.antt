@@ -13,17 +13,13 @@ returns-in_default c = sym (taken_none _ _ _ (sym c.taken.ensures ∙ c.in_defau
 pub returns-in_default-taken : goal.returns-in_default-taken
 unfolding within_of
 returns-in_default-taken c =
-    let y = c in
-    let x = y in
-    let x-ends = sym x.taken.ensures ∙ x.in-Between.is in
-    let y-none = sym y.taken-2.ensures ∙ c.in_default-taken.is in
+    let x-ends = sym c.taken.ensures ∙ c.in-Between.is in
+    let y-none = sym c.taken-2.ensures ∙ c.in_default-taken.is in
     rw (taken-ends _ _ _ _ _ x-ends, taken_none _ _ _ y-none)
 
 pub returns : goal.returns
 unfolding within_of
 returns c =
-    let y = c in
-    let x = y in
-    let x-ends = sym x.taken.ensures ∙ x.in-Between.is in
-    let y-ends = sym y.taken-2.ensures ∙ y.in-Between-taken.is in
+    let x-ends = sym c.taken.ensures ∙ c.in-Between.is in
+    let y-ends = sym c.taken-2.ensures ∙ c.in-Between-taken.is in
     rw (taken-ends _ _ _ _ _ x-ends, taken-ends _ _ _ _ _ y-ends) (search rules)

@@ -13,8 +13,7 @@ unfolding cuts_of
 returns-in_default-taken c =
     let left : TakenAs c.args.x c.in-Between.a c.in-Between.b =
     taken_as _ _ _ c.taken.ensures c.in-Between.is c.in-Between.known_told-1-own.given.0.1 c.in-Between.known_told-1-own.given.1.0.1 in
-    let k = c in
-    with-ends _ _ left (with_none _ _ _ k.taken-2.ensures c.in_default-taken.is c.no_cuts-in_default-taken.ensures)
+    with-ends _ _ left (with_none _ _ _ c.taken-2.ensures c.in_default-taken.is c.no_cuts-in_default-taken.ensures)
 
 pub returns-then-wanted : goal.returns-then-wanted
 unfolding cuts_of cuts_for_of
@@ -23,7 +22,6 @@ returns-then-wanted c =
     taken_as _ _ _ c.taken.ensures c.in-Between.is c.in-Between.known_told-1-own.given.0.1 c.in-Between.known_told-1-own.given.1.0.1 in
     let right : TakenAs c.args.y c.in-Between-taken.c c.in-Between-taken.d =
     taken_as _ _ _ c.taken-2.ensures c.in-Between-taken.is c.in-Between-taken.known_told-in-Between-taken-2-1-own.given.0.1 c.in-Between-taken.known_told-in-Between-taken-2-1-own.given.1.0.1 in
-    let k = c in
     with-both _ _ left right (rw c.if-wanted.true c.cuts_yes.ensures)
 
 pub returns-else-wanted : goal.returns-else-wanted
@@ -33,5 +31,4 @@ returns-else-wanted c =
     taken_as _ _ _ c.taken.ensures c.in-Between.is c.in-Between.known_told-1-own.given.0.1 c.in-Between.known_told-1-own.given.1.0.1 in
     let right : TakenAs c.args.y c.in-Between-taken.c c.in-Between-taken.d =
     taken_as _ _ _ c.taken-2.ensures c.in-Between-taken.is c.in-Between-taken.known_told-in-Between-taken-2-1-own.given.0.1 c.in-Between-taken.known_told-in-Between-taken-2-1-own.given.1.0.1 in
-    let k = c in
     with-both _ _ left right (rw c.if-wanted.false c.cuts_no.ensures)

@@ -14,8 +14,7 @@ unfolding kept_of
 returns-in_default-taken c =
     let left : TakenAs c.args.left c.in-Between.a c.in-Between.b =
     taken_as _ _ _ c.taken.ensures c.in-Between.is c.in-Between.known_told-1-own.given.0.1 c.in-Between.known_told-1-own.given.1.0.1 in
-    let k = c in
-    with-ends _ _ left (with_none _ _ _ k.taken-2.ensures c.in_default-taken.is c.no_cuts-in_default-taken.ensures)
+    with-ends _ _ left (with_none _ _ _ c.taken-2.ensures c.in_default-taken.is c.no_cuts-in_default-taken.ensures)
 
 pub returns : goal.returns
 unfolding kept_of

@@ -7,16 +7,12 @@ use Rattle.table.proofs.decode.node_at.Goals as goal
 
 pub returns : goal.returns
 returns c =
-    let last = c in
-    let third = last in
-    let second = third in
-    let first = second in
-    let four = first.four-f in
-    let fits = first.struct_told-1.given in
-    let kind = number-back _ fits.0.1 first.number.ensures.value in
+    let four = c.four-f in
+    let fits = c.struct_told-1.given in
+    let kind = number-back _ fits.0.1 c.number.ensures.value in
     let x = read_back fits.1.0.1 in
     let y = read_back fits.1.1.0.1 in
-    let a = number-back _ fits.1.0.1 second.number-2.ensures.value in
-    let b = number-back _ fits.1.1.0.1 third.number-3.ensures.value in
-    let c = number-back _ fits.1.1.1.0.1 last.number-4.ensures.value in
+    let a = number-back _ fits.1.0.1 c.number-2.ensures.value in
+    let b = number-back _ fits.1.1.0.1 c.number-3.ensures.value in
+    let c = number-back _ fits.1.1.1.0.1 c.number-4.ensures.value in
     record { value = node-read four.result kind x y a b c ∙ ap node_from four.ensures; n_value = ap (shape_from _) (sym four.ensures) ∙ shape-read four.result _ kind x y a b c }

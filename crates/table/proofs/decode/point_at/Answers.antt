@@ -6,17 +6,13 @@ use Rattle.table.proofs.decode.point_at.Goals as goal
 
 pub returns : goal.returns
 returns c =
-    let last = c in
-    let third = last in
-    let second = third in
-    let first = second in
-    let four = first.four-f in
-    let fits = first.struct_told-1.given in
+    let four = c.four-f in
+    let fits = c.struct_told-1.given in
     point-read
     four.result
-    (number-back _ fits.0.1 first.number.ensures.value)
-    (number-back _ fits.1.0.1 second.number-2.ensures.value)
-    (number-back _ fits.1.1.0.1 third.number-3.ensures.value)
-    (number-back _ fits.1.1.1.0.1 last.number-4.ensures.value)
+    (number-back _ fits.0.1 c.number.ensures.value)
+    (number-back _ fits.1.0.1 c.number-2.ensures.value)
+    (number-back _ fits.1.1.0.1 c.number-3.ensures.value)
+    (number-back _ fits.1.1.1.0.1 c.number-4.ensures.value)
     c.point_by.ensures
     ∙ ap point_from four.ensures

@@ -5,6 +5,5 @@ use Rattle.table.proofs.decode.shape_at.Goals as goal
 
 pub returns : goal.returns
 returns c =
-    let told = c in
-    let fits = told.struct_told-1.given in
-    shape-found _ _ _ _ _ told.node_at-f.ensures.n_value (read_back fits.1.0.1) (read_back fits.1.1.0.1) c.shape_by.ensures
+    let fits = c.struct_told-1.given in
+    shape-found _ _ _ _ _ c.node_at-f.ensures.n_value (read_back fits.1.0.1) (read_back fits.1.1.0.1) c.shape_by.ensures

@@ -4,5 +4,4 @@ use Rattle.table.proofs.formed.is_target.Goals as goal
 
 pub returns : goal.returns
 returns c =
-    let read = c in
-    rw (number-back read.args.w read.ranges.w.sfits read.number-q.ensures.value)
+    rw (number-back c.args.w c.ranges.w.sfits c.number-q.ensures.value)

@@ -33,50 +33,37 @@ unfolding point_fields_of number_of fits_of ref_of
 returns-in-0 c =
     let words : back c.four-x.result ≡ four_of c.args.points.now c.args.p =
     let fits = c.struct_told-1.given in read-four fits.0.1 fits.1.0.1 fits.1.1.0.1 fits.1.1.1.0.1 ∙ c.four-x.ensures in
-    λ t h. let second = c in
-    let first = second in
-    let arm = first in
-    point-counted t _ _ _ words (keyed arm.in-0.in-0-own.keys1)
-    (in-turn (tested first.is_unused.ensures) (in-turn (tested second.is_unused-in-0.ensures) (tested c.is_unused-in-0-2.ensures)))
+    λ t h. point-counted t _ _ _ words (keyed c.in-0.in-0-own.keys1)
+    (in-turn (tested c.is_unused.ensures) (in-turn (tested c.is_unused-in-0.ensures) (tested c.is_unused-in-0-2.ensures)))
 
 pub returns-in-1 : goal.returns-in-1
 unfolding point_fields_of number_of fits_of ref_of
 returns-in-1 c =
     let words : back c.four-x.result ≡ four_of c.args.points.now c.args.p =
     let fits = c.struct_told-1.given in read-four fits.0.1 fits.1.0.1 fits.1.1.0.1 fits.1.1.1.0.1 ∙ c.four-x.ensures in
-    λ t h. let second = c in
-    let first = second in
-    let arm = first in
-    point-counted t _ _ _ words (keyed arm.in-1.in-1-own.keys2)
-    (in-turn (tested (ap₂ ltb first.number.ensures.value h.variables))
-    (in-turn (rw h.nodes at second.uses_arithmetic.ensures) (tested (c.is_target.ensures ∙ h.targets _))))
+    λ t h. point-counted t _ _ _ words (keyed c.in-1.in-1-own.keys2)
+    (in-turn (tested (ap₂ ltb c.number.ensures.value h.variables))
+    (in-turn (rw h.nodes at c.uses_arithmetic.ensures) (tested (c.is_target.ensures ∙ h.targets _))))
 
 pub returns-in-2 : goal.returns-in-2
 unfolding point_fields_of number_of fits_of ref_of
 returns-in-2 c =
     let words : back c.four-x.result ≡ four_of c.args.points.now c.args.p =
     let fits = c.struct_told-1.given in read-four fits.0.1 fits.1.0.1 fits.1.1.0.1 fits.1.1.1.0.1 ∙ c.four-x.ensures in
-    λ t h. let second = c in
-    let first = second in
-    let arm = first in
-    point-counted t _ _ _ words (keyed arm.in-2.in-2-own.keys3)
-    (in-turn (rw h.nodes at first.uses_condition.ensures)
-    (in-turn (tested (second.is_target-in-2.ensures ∙ h.targets _)) (tested (c.is_target-in-2-2.ensures ∙ h.targets _))))
+    λ t h. point-counted t _ _ _ words (keyed c.in-2.in-2-own.keys3)
+    (in-turn (rw h.nodes at c.uses_condition.ensures)
+    (in-turn (tested (c.is_target-in-2.ensures ∙ h.targets _)) (tested (c.is_target-in-2-2.ensures ∙ h.targets _))))
 
 pub returns-in-3-to-4 : goal.returns-in-3-to-4
 unfolding fits_of ref_of
 returns-in-3-to-4 c =
     let words : back c.four-x.result ≡ four_of c.args.points.now c.args.p =
     let fits = c.struct_told-1.given in read-four fits.0.1 fits.1.0.1 fits.1.1.0.1 fits.1.1.1.0.1 ∙ c.four-x.ensures in
-    λ t h. let second = c in
-    let first = second in
-    let arm = first in
-    let rest = arm in
-    let z = to_z w32 (of_z w32 rest.four-x.result.kind) in
+    λ t h. let z = to_z w32 (of_z w32 c.four-x.result.kind) in
     point-counted t _ _ _ words
-    (mutex-fields (from-three _ rest.in-3-to-4.in_default-own.rest) (number-within z 0 5 arm.in-3-to-4.if-kind-lt0-own.false arm.in-3-to-4.if-kind-lt5-own.true))
-    (in-turn (tested (ap₂ ltb first.number-in-3-to-4.ensures.value h.mutexes))
-    (in-turn (tested (second.is_target-in-3-to-4.ensures ∙ h.targets _)) (tested c.is_unused-in-3-to-4.ensures)))
+    (mutex-fields (from-three _ c.in-3-to-4.in_default-own.rest) (number-within z 0 5 c.in-3-to-4.if-kind-lt0-own.false c.in-3-to-4.if-kind-lt5-own.true))
+    (in-turn (tested (ap₂ ltb c.number-in-3-to-4.ensures.value h.mutexes))
+    (in-turn (tested (c.is_target-in-3-to-4.ensures ∙ h.targets _)) (tested c.is_unused-in-3-to-4.ensures)))
 
 -- kinds that there are not: negative ones, and those past 4
 pub returns-in_default : goal.returns-in_default

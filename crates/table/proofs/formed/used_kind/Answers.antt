@@ -9,9 +9,7 @@ pub returns-then-n-below : goal.returns-then-n-below
 returns-then-n-below c =
     let named : c.number-n.result ≡ number_of c.args.w =
     number-back _ c.ranges.w.sfits c.number-n.ensures.value in
-    let count = c in
-    let test = count in
-    λ sort none. used _ sort named test.if-n-below.true count.use_node.ensures c.kind_at.ensures
+    λ sort none. used _ sort named c.if-n-below.true c.use_node.ensures c.kind_at.ensures
 
 pub returns-else-n-below : goal.returns-else-n-below
 returns-else-n-below c =

@@ -6,6 +6,4 @@ use Rattle.table.proofs.formed.uses_condition.Goals as goal
 
 pub returns : goal.returns
 returns c =
-    let kind = c in
-    let start = kind in
-    rw c.is_condition.ensures (rw (read_back {z = start.args.w} start.ranges.w.sfits) at (kind.used_kind.ensures is_condition refl))
+    rw c.is_condition.ensures (rw (read_back {z = c.args.w} c.ranges.w.sfits) at (c.used_kind.ensures is_condition refl))

@@ -14,9 +14,8 @@ loop-k-init c = search rules
 
 pub returns-then-u-k : goal.returns-then-u-k
 returns-then-u-k c =
-    let turn = c in
-    let at-u : turn.loop-k.k ≡ turn.args.u = omega arith in
-    turn.loop-k.invariant.2 ∙ ap (first_in turn.args.shares.now) at-u
+    let at-u : c.loop-k.k ≡ c.args.u = omega arith in
+    c.loop-k.invariant.2 ∙ ap (first_in c.args.shares.now) at-u
 
 pub loop-k-preserved : goal.loop-k-preserved
 loop-k-preserved c =
@@ -25,6 +24,5 @@ loop-k-preserved c =
 
 pub returns : goal.returns
 returns c =
-    let turn = c in
-    let at-end : turn.loop-k.k ≡ length turn.args.shares.now = omega arith in
-    turn.loop-k.invariant.2 ∙ ap (first_in turn.args.shares.now) at-end ∙ sym (first_past _ _ (omega arith))
+    let at-end : c.loop-k.k ≡ length c.args.shares.now = omega arith in
+    c.loop-k.invariant.2 ∙ ap (first_in c.args.shares.now) at-end ∙ sym (first_past _ _ (omega arith))

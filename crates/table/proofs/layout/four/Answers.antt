@@ -7,9 +7,8 @@ use Rattle.table.proofs.layout.four.Goals as goal
 pub returns-then-n-ws : goal.returns-then-n-ws
 unfolding four_of four_by
 returns-then-n-ws c =
-    let kind = c in
-    rw (lt-ltb _ _ kind.if-n-ws.true)
-    (read-four kind.result-1.given c.result-then-n-ws-1.given c.result-then-n-ws-2-1.given c.result-then-n-ws-3-1.given)
+    rw (lt-ltb _ _ c.if-n-ws.true)
+    (read-four c.result-1.given c.result-then-n-ws-1.given c.result-then-n-ws-2-1.given c.result-then-n-ws-3-1.given)
 
 pub returns-else-n-ws : goal.returns-else-n-ws
 unfolding four_of four_by

@@ -25,7 +25,6 @@ loop-k-preserved c =
 
 pub returns : goal.returns
 returns c =
-    let turn = c in
-    let a = turn.args in
-    let at-end : turn.loop-k.k - 1 ≡ length a.shares.now - 1 = omega arith in
-    turn.loop-k.invariant.2 ∙ ap (last_in a.shares.now a.p) at-end
+    let a = c.args in
+    let at-end : c.loop-k.k - 1 ≡ length a.shares.now - 1 = omega arith in
+    c.loop-k.invariant.2 ∙ ap (last_in a.shares.now a.p) at-end

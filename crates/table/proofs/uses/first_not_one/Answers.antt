@@ -5,13 +5,11 @@ use Rattle.table.proofs.uses.first_not_one.Goals as goal
 
 pub returns-then-not-is_one : goal.returns-then-not-is_one
 returns-then-not-is_one c =
-    let turn = c in
-    stop turn.loop-n.invariant turn.loop-n-test.true (fails c.is_one.ensures c.if-not-is_one.true)
+    stop c.loop-n.invariant c.loop-n-test.true (fails c.is_one.ensures c.if-not-is_one.true)
 
 pub loop-n-preserved : goal.loop-n-preserved
 loop-n-preserved c =
-    let turn = c in
-    next turn.loop-n.invariant turn.loop-n-test.true (holds c.is_one.ensures c.if-not-is_one.false)
+    next c.loop-n.invariant c.loop-n-test.true (holds c.is_one.ensures c.if-not-is_one.false)
 
 pub loop-n-init : goal.loop-n-init
 loop-n-init c =

@@ -14,44 +14,32 @@ use Rattle.table.proofs.validate.first_in_task.Goals as goal
 
 pub loop-p-init : goal.loop-p-init
 loop-p-init c =
-    let start = c in
-    (omega arith, task-rise _ start.requires.whole start.requires.t_value start.requires.one_task, λ s w. w)
+    (omega arith, task-rise _ c.requires.whole c.requires.t_value c.requires.one_task, λ s w. w)
 
 pub returns-then-not-point_ok : goal.returns-then-not-point_ok
 returns-then-not-point_ok c =
-    let counted : let turn = c in let t = turn.args.t.now in Counted (rule5 t turn.loop-p.p) (point_refs (points_of t) turn.loop-p.p) turn.loop-p.counts c.point_ok.new.counts c.point_ok.result =
-    let turn = c in
-    let points = turn in
-    let sizes = points in
-    let start = sizes in
-    rw (points.node_words-nodes.ensures, points.point_words-points.ensures) at
-    (c.point_ok.ensures start.args.t.now (record {
-      variables = ap (λ (s : Sizes). s.variables) sizes.sizes-s.ensures.value;
-      mutexes = ap (λ (s : Sizes). s.mutexes) sizes.sizes-s.ensures.value;
-      nodes = ap (λ (s : Sizes). s.nodes) sizes.sizes-s.ensures.value;
-      targets = task-targets _ start.requires.whole start.requires.t_value start.requires.one_task turn.loop-p.invariant.0 turn.loop-p-test.true;
+    let counted : let t = c.args.t.now in Counted (rule5 t c.loop-p.p) (point_refs (points_of t) c.loop-p.p) c.loop-p.counts c.point_ok.new.counts c.point_ok.result =
+    rw (c.node_words-nodes.ensures, c.point_words-points.ensures) at
+    (c.point_ok.ensures c.args.t.now (record {
+      variables = ap (λ (s : Sizes). s.variables) c.sizes-s.ensures.value;
+      mutexes = ap (λ (s : Sizes). s.mutexes) c.sizes-s.ensures.value;
+      nodes = ap (λ (s : Sizes). s.nodes) c.sizes-s.ensures.value;
+      targets = task-targets _ c.requires.whole c.requires.t_value c.requires.one_task c.loop-p.invariant.0 c.loop-p-test.true;
     })) in
-    let turn = c in
-    λ start w. walk-stop (turn.loop-p.invariant.2 start w) counted c.if-not-point_ok.true turn.loop-p-test.true
+    λ s w. walk-stop (c.loop-p.invariant.2 s w) counted c.if-not-point_ok.true c.loop-p-test.true
 
 pub loop-p-preserved : goal.loop-p-preserved
 loop-p-preserved c =
-    let counted : let turn = c in let t = turn.args.t.now in Counted (rule5 t turn.loop-p.p) (point_refs (points_of t) turn.loop-p.p) turn.loop-p.counts c.point_ok.new.counts c.point_ok.result =
-    let turn = c in
-    let points = turn in
-    let sizes = points in
-    let start = sizes in
-    rw (points.node_words-nodes.ensures, points.point_words-points.ensures) at
-    (c.point_ok.ensures start.args.t.now (record {
-      variables = ap (λ (s : Sizes). s.variables) sizes.sizes-s.ensures.value;
-      mutexes = ap (λ (s : Sizes). s.mutexes) sizes.sizes-s.ensures.value;
-      nodes = ap (λ (s : Sizes). s.nodes) sizes.sizes-s.ensures.value;
-      targets = task-targets _ start.requires.whole start.requires.t_value start.requires.one_task turn.loop-p.invariant.0 turn.loop-p-test.true;
+    let counted : let t = c.args.t.now in Counted (rule5 t c.loop-p.p) (point_refs (points_of t) c.loop-p.p) c.loop-p.counts c.point_ok.new.counts c.point_ok.result =
+    rw (c.node_words-nodes.ensures, c.point_words-points.ensures) at
+    (c.point_ok.ensures c.args.t.now (record {
+      variables = ap (λ (s : Sizes). s.variables) c.sizes-s.ensures.value;
+      mutexes = ap (λ (s : Sizes). s.mutexes) c.sizes-s.ensures.value;
+      nodes = ap (λ (s : Sizes). s.nodes) c.sizes-s.ensures.value;
+      targets = task-targets _ c.requires.whole c.requires.t_value c.requires.one_task c.loop-p.invariant.0 c.loop-p-test.true;
     })) in
-    let turn = c in
-    (omega arith, omega arith, λ start w. walk-next (turn.loop-p.invariant.2 start w) counted c.if-not-point_ok.false)
+    (omega arith, omega arith, λ s w. walk-next (c.loop-p.invariant.2 s w) counted c.if-not-point_ok.false)
 
 pub returns : goal.returns
 returns c =
-    let turn = c in
-    rw (le_antisymm c.loop-p-test.false turn.loop-p.invariant.1) turn.loop-p.invariant.2
+    rw (le_antisymm c.loop-p-test.false c.loop-p.invariant.1) c.loop-p.invariant.2

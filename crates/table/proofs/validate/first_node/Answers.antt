@@ -16,24 +16,21 @@ pub returns-then-not-node_ok : goal.returns-then-not-node_ok
 returns-then-not-node_ok c =
     let many : c.sizes-s.result.nodes ≡ (sizes_of c.args.t.now).nodes =
     ap (λ (s : Sizes). s.nodes) c.sizes-s.ensures.value in
-    let counted : let turn = c in let t = turn.args.t.now in Counted (rule4 t turn.loop-n.n) (node_refs (nodes_of t) turn.loop-n.n) turn.loop-n.counts c.node_ok.new.counts c.node_ok.result =
-    let words = c in rw words.node_words-nodes.ensures at (c.node_ok.ensures words.args.t.now (ap (λ (s : Sizes). s.variables) words.sizes-s.ensures.value)) in
-    let turn = c in
-    walk-stop turn.loop-n.invariant.1 counted c.if-not-node_ok.true (rw (← many) turn.loop-n-test.true)
+    let counted : let t = c.args.t.now in Counted (rule4 t c.loop-n.n) (node_refs (nodes_of t) c.loop-n.n) c.loop-n.counts c.node_ok.new.counts c.node_ok.result =
+    rw c.node_words-nodes.ensures at (c.node_ok.ensures c.args.t.now (ap (λ (s : Sizes). s.variables) c.sizes-s.ensures.value)) in
+    walk-stop c.loop-n.invariant.1 counted c.if-not-node_ok.true (rw (← many) c.loop-n-test.true)
 
 pub loop-n-preserved : goal.loop-n-preserved
 loop-n-preserved c =
-    let counted : let turn = c in let t = turn.args.t.now in Counted (rule4 t turn.loop-n.n) (node_refs (nodes_of t) turn.loop-n.n) turn.loop-n.counts c.node_ok.new.counts c.node_ok.result =
-    let words = c in rw words.node_words-nodes.ensures at (c.node_ok.ensures words.args.t.now (ap (λ (s : Sizes). s.variables) words.sizes-s.ensures.value)) in
-    let turn = c in
-    (omega arith, walk-next turn.loop-n.invariant.1 counted c.if-not-node_ok.false)
+    let counted : let t = c.args.t.now in Counted (rule4 t c.loop-n.n) (node_refs (nodes_of t) c.loop-n.n) c.loop-n.counts c.node_ok.new.counts c.node_ok.result =
+    rw c.node_words-nodes.ensures at (c.node_ok.ensures c.args.t.now (ap (λ (s : Sizes). s.variables) c.sizes-s.ensures.value)) in
+    (omega arith, walk-next c.loop-n.invariant.1 counted c.if-not-node_ok.false)
 
 pub returns : goal.returns
 returns c =
     let many : c.sizes-s.result.nodes ≡ (sizes_of c.args.t.now).nodes =
     ap (λ (s : Sizes). s.nodes) c.sizes-s.ensures.value in
-    let turn = c in
-    rw (← many, le_antisymm c.loop-n-test.false turn.loop-n.invariant.0) turn.loop-n.invariant.1
+    rw (← many, le_antisymm c.loop-n-test.false c.loop-n.invariant.0) c.loop-n.invariant.1
 
 pub loop-n-init : goal.loop-n-init
 loop-n-init c =

@@ -23,25 +23,22 @@ unfolding first_of first_in
 overflow_add-last c =
     let many : c.sizes-s.result.tasks ≡ (sizes_of c.args.t.now).tasks =
     ap (λ (s : Sizes). s.tasks) c.sizes-s.ensures.value in
-    let next-first : let turn = c in turn.loop-u.first + c.number_at.result ≡ first_of turn.args.t.now (suc turn.loop-u.u) =
-    let turn = c in rw (turn.loop-u.invariant.1, c.number_at.ensures.value, turn.shares-of.ensures) in
-    let one-task : let turn = c in OneTask turn.args.t.now turn.loop-u.first (turn.loop-u.first + c.number_at.result) =
-    let turn = c in record { task = turn.loop-u.u; there = rw (← many) c.loop-u-test.true; from = turn.loop-u.invariant.1; to = next-first } in
-    let within : let turn = c in turn.loop-u.first + c.number_at.result ≤ (sizes_of turn.args.t.now).points =
-    let start = c in last_within _ start.requires.whole start.requires.t_value one-task in
-    let sizes = c in
-    let few : (sizes_of sizes.args.t.now).points ≤ 4294967295 = rw sizes.sizes-s.ensures.value at sizes.sizes-s.ensures.sized.points in
+    let next-first : c.loop-u.first + c.number_at.result ≡ first_of c.args.t.now (suc c.loop-u.u) =
+    rw (c.loop-u.invariant.1, c.number_at.ensures.value, c.shares-of.ensures) in
+    let one-task : OneTask c.args.t.now c.loop-u.first (c.loop-u.first + c.number_at.result) =
+    record { task = c.loop-u.u; there = rw (← many) c.loop-u-test.true; from = c.loop-u.invariant.1; to = next-first } in
+    let within : c.loop-u.first + c.number_at.result ≤ (sizes_of c.args.t.now).points =
+    last_within _ c.requires.whole c.requires.t_value one-task in
+    let few : (sizes_of c.args.t.now).points ≤ 4294967295 = rw c.sizes-s.ensures.value at c.sizes-s.ensures.sized.points in
     omega (arith, within)
 
 pub loop-u-preserved : goal.loop-u-preserved
 unfolding first_of first_in
 loop-u-preserved c =
-    let next-first : let turn = c in turn.loop-u.first + c.number_at.result ≡ first_of turn.args.t.now (suc turn.loop-u.u) =
-    let turn = c in rw (turn.loop-u.invariant.1, c.number_at.ensures.value, turn.shares-of.ensures) in
-    let walked : let sum = c in let start = sum in Walked (rule5 start.args.t.now) (point_refs (points_of start.args.t.now)) (sum.loop-u.first + sum.number_at.result) start.args.counts.now c.first_in_task.new.counts c.first_in_task.result =
+    let next-first : c.loop-u.first + c.number_at.result ≡ first_of c.args.t.now (suc c.loop-u.u) =
+    rw (c.loop-u.invariant.1, c.number_at.ensures.value, c.shares-of.ensures) in
+    let walked : Walked (rule5 c.args.t.now) (point_refs (points_of c.args.t.now)) (c.loop-u.first + c.number_at.result) c.args.counts.now c.first_in_task.new.counts c.first_in_task.result =
     c.first_in_task.ensures _ c.loop-u.invariant.2 in
-    let call = c in
-    let sum = call in
     (omega arith, rw add-one next-first, rw c.in_default.is at walked)
 
 pub returns-in-At : goal.returns-in-At
@@ -49,15 +46,14 @@ unfolding first_of first_in
 returns-in-At c =
     let many : c.sizes-s.result.tasks ≡ (sizes_of c.args.t.now).tasks =
     ap (λ (s : Sizes). s.tasks) c.sizes-s.ensures.value in
-    let next-first : let turn = c in turn.loop-u.first + c.number_at.result ≡ first_of turn.args.t.now (suc turn.loop-u.u) =
-    let turn = c in rw (turn.loop-u.invariant.1, c.number_at.ensures.value, turn.shares-of.ensures) in
-    let one-task : let turn = c in OneTask turn.args.t.now turn.loop-u.first (turn.loop-u.first + c.number_at.result) =
-    let turn = c in record { task = turn.loop-u.u; there = rw (← many) c.loop-u-test.true; from = turn.loop-u.invariant.1; to = next-first } in
-    let within : let turn = c in turn.loop-u.first + c.number_at.result ≤ (sizes_of turn.args.t.now).points =
-    let start = c in last_within _ start.requires.whole start.requires.t_value one-task in
-    let walked : let sum = c in let start = sum in Walked (rule5 start.args.t.now) (point_refs (points_of start.args.t.now)) (sum.loop-u.first + sum.number_at.result) start.args.counts.now c.first_in_task.new.counts c.first_in_task.result =
+    let next-first : c.loop-u.first + c.number_at.result ≡ first_of c.args.t.now (suc c.loop-u.u) =
+    rw (c.loop-u.invariant.1, c.number_at.ensures.value, c.shares-of.ensures) in
+    let one-task : OneTask c.args.t.now c.loop-u.first (c.loop-u.first + c.number_at.result) =
+    record { task = c.loop-u.u; there = rw (← many) c.loop-u-test.true; from = c.loop-u.invariant.1; to = next-first } in
+    let within : c.loop-u.first + c.number_at.result ≤ (sizes_of c.args.t.now).points =
+    last_within _ c.requires.whole c.requires.t_value one-task in
+    let walked : Walked (rule5 c.args.t.now) (point_refs (points_of c.args.t.now)) (c.loop-u.first + c.number_at.result) c.args.counts.now c.first_in_task.new.counts c.first_in_task.result =
     c.first_in_task.ensures _ c.loop-u.invariant.2 in
-    let call = c in
     walk-longer (rw c.in-At.is at walked) within
 
 pub returns : goal.returns
@@ -65,18 +61,17 @@ unfolding first_of
 returns c =
     let many : c.sizes-s.result.tasks ≡ (sizes_of c.args.t.now).tasks =
     ap (λ (s : Sizes). s.tasks) c.sizes-s.ensures.value in
-    let turn = c in
-    let last = le_antisymm turn.loop-u.invariant.0 c.loop-u-test.false ∙ many in
-    let all = turn.loop-u.invariant.1 ∙ ap (first_of turn.args.t.now) last ∙ turn.requires.t_value in
-    rw (← all) turn.loop-u.invariant.2
+    let last = le_antisymm c.loop-u.invariant.0 c.loop-u-test.false ∙ many in
+    let all = c.loop-u.invariant.1 ∙ ap (first_of c.args.t.now) last ∙ c.requires.t_value in
+    rw (← all) c.loop-u.invariant.2
 
 pub first_in_task-requires : goal.first_in_task-requires
 unfolding first_of first_in
 first_in_task-requires c =
     let many : c.sizes-s.result.tasks ≡ (sizes_of c.args.t.now).tasks =
     ap (λ (s : Sizes). s.tasks) c.sizes-s.ensures.value in
-    let next-first : let turn = c in turn.loop-u.first + c.number_at.result ≡ first_of turn.args.t.now (suc turn.loop-u.u) =
-    let turn = c in rw (turn.loop-u.invariant.1, c.number_at.ensures.value, turn.shares-of.ensures) in
-    let one-task : let turn = c in OneTask turn.args.t.now turn.loop-u.first (turn.loop-u.first + c.number_at.result) =
-    let turn = c in record { task = turn.loop-u.u; there = rw (← many) c.loop-u-test.true; from = turn.loop-u.invariant.1; to = next-first } in
+    let next-first : c.loop-u.first + c.number_at.result ≡ first_of c.args.t.now (suc c.loop-u.u) =
+    rw (c.loop-u.invariant.1, c.number_at.ensures.value, c.shares-of.ensures) in
+    let one-task : OneTask c.args.t.now c.loop-u.first (c.loop-u.first + c.number_at.result) =
+    record { task = c.loop-u.u; there = rw (← many) c.loop-u-test.true; from = c.loop-u.invariant.1; to = next-first } in
     record { whole = c.requires.whole; t_value = c.requires.t_value; one_task = one-task }

@@ -47,10 +47,9 @@ returns-then-first_of-s c =
     rw (c.shares.ensures, c.sizes-s.ensures.value) at c.first_share.ensures in
     let shares-pass : first_bad (share_ok_of (shares_of t)) (sizes_of t).tasks ≡ Nothing =
     sym shares-searched ∙ c.in_default.is in
-    let first = c in
-    let sizes = first.sizes-s.ensures.value in
+    let sizes = c.sizes-s.ensures.value in
     pass _ shares-pass
-    (halt-if _ (ne_eqb _ _ (λ e. c.if-first_of-s.true (first.first_of.ensures ∙ rw sizes e))) (ap (λ (s : Sizes). s.tasks) sizes))
+    (halt-if _ (ne_eqb _ _ (λ e. c.if-first_of-s.true (c.first_of.ensures ∙ rw sizes e))) (ap (λ (s : Sizes). s.tasks) sizes))
 
 pub returns-in-At-first_node : goal.returns-in-At-first_node
 returns-in-At-first_node c =

@@ -15,14 +15,12 @@ unsigned-requires c = omega (arith, c.fewer-whole.ensures)
 
 pub bounds-room-k : goal.bounds-room-k
 bounds-room-k c =
-    let at = c in
-    let e = kept at.loop-k.invariant in
-    omega (arith, at.loop-k-test.true, at.loop-k.invariant.room)
+    let e = kept c.loop-k.invariant in
+    omega (arith, c.loop-k-test.true, c.loop-k.invariant.room)
 
 pub loop-k-preserved : goal.loop-k-preserved
 loop-k-preserved c =
-    let at = c in
-    fills at.loop-k.invariant at.loop-k-test.true
+    fills c.loop-k.invariant c.loop-k-test.true
     (to_z-of_z {w = w32} (record { sfits = c.signed.type_inv }) ∙ c.signed.ensures ∙ ap signed_of c.unsigned.ensures)
 
 pub shape_of-room : goal.shape_of-room
