@@ -3,13 +3,13 @@
 use Prim.Native.Nat.{ℕ, zero, suc, zero-le, ◌+◌, ◌-◌, ◌*◌, ◌/◌, ◌%◌, ◌^◌, ◌<◌, ◌≤◌}
 use mathlib.Core.Path.{◌≡◌, refl, sym, ap, subst, ◌∙◌}
 use mathlib.Core.Bool.{Bool, true, false}
-use mathlib.Core.List.{List, [], ◌++◌, append_assoc, append-nil}
-use native.Mathlib.Nat.{not-suc-le-zero, le_of_eq, le_of_suc-le-suc, pow-suc, pow-le-pow_right}
+use mathlib.Core.List.{List, [], ◌++◌, append_assoc}
+use native.Mathlib.Nat.{not-suc-le-zero, le_of_suc-le-suc, pow-suc, pow-le-pow_right}
 use native.Mathlib.Omega.{arith}
 use borrow.Author.Tests.{lt-ltb, le-ltb, leb-true, leb-false}
 use lib.Dec.{leb}
-use lib.ListN.{length, take, drop, length-append, length-drop, take-append-drop, drop_of_length-le}
-use lib.Seq.{length-take-le, take_all, take-length, take_at, drop_at, drop-drop}
+use lib.ListN.{length, take, drop, length-append, length-drop, take-append-drop}
+use lib.Seq.{length-take-le, take_at, drop_at, drop-drop}
 use Rattle.io.specs.Counts.{IsPrefixLen}
 use Rattle.io.specs.Digits.{hex_digit_ascii, last_digits, IsDigitCount}
 use Rattle.rangecheck.specs.Text.{last_or, digits_in, Put}
@@ -101,21 +101,3 @@ none t at h = record { is = sym (take-append-drop at t); next-is = omega arith; 
 -- another name of what was put
 pub named : {t u a b : List ℕ} {at n : ℕ} → a ≡ b → Put t at a u n → Put t at b u n
 named {t} {u} {a} {b} {at} {n} e p = subst (λ (x : List ℕ). Put t at x u n) e p
-
--- bytes s that were copied to a text from an index on, as `bytes::copy(s, &mut t[at..])` leaves it
-module _ (at : ℕ) (t s : List ℕ) (fits : at + length s ≤ length t) where
-  to_end : take (length t - at) (drop at t) ≡ drop at t
-  to_end = take_all (length t - at) (drop at t) (le_of_eq (length-drop at t))
-
-  past_end : drop (length t - at) (drop at t) ≡ []
-  past_end = drop_of_length-le (drop at t) (le_of_eq (length-drop at t))
-
-  pub copied : {n : ℕ} {m : List ℕ} → n ≡ length s → m ≡ take (length s) s ++ drop (length s) (take (length t - at) (drop at t))
-      → Put t at s (take at t ++ (m ++ drop (length t - at) (drop at t))) (at + n)
-  copied {n} {m} l q =
-      let rest : drop (length s) (drop at t) ≡ drop (at + n) t = drop-drop (length s) at t ∙ ap (λ (k : ℕ). drop (at + k) t) (sym l) in
-      record {
-        is = rw (q, past_end, to_end, take-length s, rest, append-nil (s ++ drop (at + n) t));
-        next-is = ap (λ (k : ℕ). at + k) l;
-        room = omega arith;
-      }

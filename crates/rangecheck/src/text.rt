@@ -7,8 +7,9 @@ pub(crate) fn put(text: &mut [u8], at: usize, s: &[u8]) -> usize
     requires { at + length s.now ≤ length text.old }
     ensures { Put text.old at s.now text.new result }
 {
-    let n = bytes::copy(s, &mut text[at..]);
-    at + n
+    let end = at + s.len();
+    text[at..end].copy_from_slice(s);
+    end
 }
 
 // Puts a number's decimal digits, at most 20.
