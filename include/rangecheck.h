@@ -1,4 +1,4 @@
-/* The proved check, proposer and run of librangecheck_c.a, which `rt staticlib rangecheck_c` makes in target/staticlib.
+/* The proved check, proposer and run of librangecheck_c.a, which `tools/tower build` makes in target/staticlib.
 
    All three functions take any words whatever: nothing need be checked before a call, and they always come back. They keep nothing between calls and
    touch no memory but what they are lent, so that several threads may call them. docs/FORMAT.md says what the words mean.

@@ -1,4 +1,4 @@
-//! Links the static library that `rt staticlib rangecheck_c` makes.
+//! Links the static library that `tools/tower build` makes.
 use std::path::Path;
 
 fn main() {
@@ -6,7 +6,7 @@ fn main() {
     let folder = format!("{root}/../../target/staticlib");
     let library = format!("{folder}/librangecheck_c.a");
     if !Path::new(&library).exists() {
-        println!("cargo:warning=there is no {library}: run `rt staticlib rangecheck_c` at the root of the repository");
+        println!("cargo:warning=there is no {library}: run `tools/tower build` at the root of the repository");
     }
     println!("cargo:rustc-link-search=native={folder}");
     println!("cargo:rustc-link-lib=static=rangecheck_c");

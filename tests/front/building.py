@@ -7,12 +7,9 @@ here=$(dirname "$0")
 echo "rt $*" >> "$here/calls"
 if test "$1" = version; then echo 'rt 0.0, which only pretends'; exit; fi
 test ! -e "$here/slow" || sleep 0.7
-test ! -e "$here/fail-$1" || { echo "a note on what failed" >&2; echo "rt: middle NOT PROVED (1 s)"; exit 3; }
-if test "$1" = staticlib; then mkdir -p target/staticlib && echo archive > target/staticlib/librangecheck_c.a; exit; fi
-shift
-test $# != 0 || set -- low middle other soundness
-for crate; do printf 'library %s: a note of rt\\nrt: %s proved (1 s)\\n' "$crate" "$crate"; done
-echo "rt: ok, $# crates proved"
+test ! -e "$here/fail-$1" || { echo "a note on what failed" >&2; printf 'crate middle: modules loaded=0\\nlogic=not-proved\\n'; exit 3; }
+if test "$1" = lib; then mkdir -p out && echo archive > out/librangecheck_c.a; set -- low middle; else set -- low middle other soundness; fi
+for crate; do printf 'library %s: a note of rt\\ncrate %s: modules loaded=0\\nlogic=proved functions=1\\n' "$crate" "$crate"; done
 """
 CC = """#!/bin/sh
 here=$(dirname "$0")
@@ -36,11 +33,12 @@ class Copy:
         self.folder, self.root, self.bin = folder, os.path.join(folder, "repository"), pretended(os.path.join(folder, "bin"))
         for part in ("tools", os.path.join("bindings", "python"), "include"):
             shutil.copytree(os.path.join(ROOT, part), os.path.join(self.root, part), ignore=shutil.ignore_patterns("__pycache__"))
-        self.put("crates.txt", "# what is below what\nlow:\nmiddle: low # a comment: too\nother: low\nrangecheck_c: middle low io\n")
+        self.put("crates.txt", "# what is below what\nlow:\nmiddle: low # a comment: too\nother: low\nrangecheck_c staticlib: middle low io\n")
         for crate in ("low", "middle", "other", "rangecheck_c"):
             for part in ("src", "specs", "proofs"):
                 self.put("crates/%s/%s/lib.rt" % (crate, part), crate)
         self.log, self.library, self.stamp = [self.path("target", "python", name) for name in ("build.log", "librangecheck.so", "stamp")]
+        self.archive = self.path("target", "staticlib", "librangecheck_c.a")
         self.tower = os.path.join(self.root, "tools", "tower")
 
     def path(self, *names):
@@ -76,20 +74,21 @@ class Copy:
 
 STARTS = r"tower: proving and building the library: about \d+ minutes, once; rt's notes go to %s\n"
 ENDS = r"tower: built in \d+ s\n"
-CALLED = ["rt check low middle", "rt staticlib rangecheck_c", "cc"]
+CALLED = ["rt lib", "cc"]
 
 
 def built_once(copy):
-    whole = STARTS % "target/python/build.log" + r"tower: low proved \(1 s\)\ntower: middle proved \(1 s\)\n" + ENDS
+    whole = STARTS % "target/python/build.log" + r"tower: low proved \(\d+ s\)\ntower: middle proved \(\d+ s\)\n" + ENDS
     out, error, status = copy.run("check")
     expect("the first check", (out, re.fullmatch(whole, error) is not None or error, status, copy.calls()), (b"accepted 0\n", True, 0, CALLED))
     log = contents(copy.log).decode()
-    expect("rt's notes", [line in log for line in ("library low: a note of rt\n", "rt: middle proved (1 s)\n", "rt: ok, 2 crates proved\n")], [True] * 3)
+    expect("rt's notes", [line in log for line in ("library low: a note of rt\n", "crate middle: modules loaded=0\n", "logic=proved functions=1\n")], [True] * 3)
     for options in (("check",), ("show",), ("picture",), ("build",)):
         out, error, status = copy.run(*options)
         expect("%s when it is built" % options, (out != b"", error, status, copy.calls()), (True, "", 0, []))
     expect("where it is", copy.run("build")[0].decode(), copy.library + "\n")
     expect("what is there", sorted(os.listdir(os.path.dirname(copy.library))), ["build.log", "librangecheck.so", "stamp"])
+    expect("the archive", (os.listdir(os.path.dirname(copy.archive)), contents(copy.archive)), (["librangecheck_c.a"], b"archive\n"))
 
 
 def built_again(copy):
@@ -106,10 +105,11 @@ def built_again(copy):
         ("a page", lambda: copy.put("crates/low/README.md", "changed"), []),
         ("the stamp", lambda: os.unlink(copy.stamp), CALLED),
         ("the library", lambda: os.unlink(copy.library), CALLED),
+        ("the archive", lambda: os.unlink(copy.archive), CALLED),
         ("the stamp, which is empty", lambda: put(copy.stamp, ""), CALLED),
         ("the stamp, which is damaged", lambda: put(copy.stamp, b"\xff"), CALLED),
-        ("one more crate below", lambda: copy.put("crates.txt", "low:\nmiddle: low\nother: low\nrangecheck_c: middle other\n"), ["rt check low middle other"] + CALLED[1:]),
-        ("one less", lambda: copy.put("crates.txt", "low:\nmiddle: low\nother: low\nrangecheck_c: middle\n"), CALLED),
+        ("one more crate below", lambda: copy.put("crates.txt", "low:\nmiddle: low\nother: low\nrangecheck_c staticlib: middle other\n"), CALLED),
+        ("one less", lambda: copy.put("crates.txt", "low:\nmiddle: low\nother: low\nrangecheck_c staticlib: middle\n"), CALLED),
     ):
         change()
         out, error, status = copy.run("check", cwd=copy.folder)
@@ -121,7 +121,7 @@ def built_again(copy):
 def unbuilt(copy):
     """What fails while it is built."""
     failed = r"`%s` failed with status \d+; what it said is in target/python/build\.log\n"
-    for sign, command, told in (("fail-check", "rt check low middle", True), ("fail-staticlib", "rt staticlib rangecheck_c", False), ("fail-cc", "cc .*", False)):
+    for sign, command, told in (("fail-lib", "rt lib", True), ("fail-cc", "cc .*", False)):
         for before in (True, False):  # with an older library, and without any
             copy.fresh()
             if before:
@@ -132,7 +132,7 @@ def unbuilt(copy):
                     out, error, status = copy.run(*options)
                     last = error.splitlines(True)[-1]
                     expect("%s with %s" % (options, sign), (out, re.fullmatch(failed % command, last) is not None or last, status), (b"", True, 2))
-                    expect("what is told with %s" % sign, ("tower: middle NOT PROVED (1 s)\n" in error, "Traceback" in error), (told, False))
+                    expect("what is told with %s" % sign, (re.search(r"tower: middle NOT PROVED \(\d+ s\)\n", error) is not None, "Traceback" in error), (told, False))
                     expect("no new library with %s" % sign, (os.path.exists(copy.library), os.path.exists(copy.stamp)), (before, before))
                 if sign != "fail-cc":
                     expect("the notes of %s" % sign, "a note on what failed\n" in contents(copy.log).decode(), True)
@@ -169,13 +169,14 @@ def unbuilt(copy):
 def proving(copy):
     copy.fresh()
     out, error, status = copy.run("prove")
-    want = ["tower: %s proved (1 s)" % crate for crate in ("low", "middle", "other", "soundness")]
-    expect("prove", (out[:8], out.count(b"\n"), error.splitlines()[1:], status, copy.calls()), (b"Proved: ", 1, want, 0, ["rt check"]))
+    want = ["tower: %s proved" % crate for crate in ("low", "middle", "other", "soundness")]
+    told = [re.sub(r" \(\d+ s\)$", "", line) for line in error.splitlines()[1:]]
+    expect("prove", (out[:8], out.count(b"\n"), told, status, copy.calls()), (b"Proved: ", 1, want, 0, ["rt all check"]))
     expect("what prove does", "about " in error.splitlines()[0] and "target/python/build.log" in error.splitlines()[0], True)
     expect("its notes", "library soundness: a note of rt\n" in contents(copy.log).decode(), True)
-    with copy.sign("fail-check"):
+    with copy.sign("fail-all"):
         out, error, status = copy.run("prove")
-        expect("prove where rt fails", (out, error.splitlines()[-1][:27], status), (b"", "`rt check` failed with stat", 2))
+        expect("prove where rt fails", (out, error.splitlines()[-1][:31], status), (b"", "`rt all check` failed with stat", 2))
     with open("/dev/full", "wb") as full:
         for options in (("prove",), ("build",), ("check",)):
             _, error, status = copy.run(*options, stdout=full)

@@ -5,6 +5,7 @@ from .output import say
 ROOT = os.path.dirname(os.path.dirname(os.path.dirname(os.path.abspath(__file__))))
 FOLDER = os.path.join(ROOT, "target", "python")
 LIBRARY, STAMP, LOG = [os.path.join(FOLDER, name) for name in ("librangecheck.so", "stamp", "build.log")]
+CRATE = os.path.join(ROOT, "crates", "rangecheck_c")
 ARCHIVE = os.path.join(ROOT, "target", "staticlib", "librangecheck_c.a")
 BUILD_TIME, PROVE_TIME = "about 4 minutes", "about 5 minutes"  # on two cores
 CLAIM = (
@@ -26,7 +27,7 @@ def crates():
         for line in file:
             name, colon, rest = line.partition("#")[0].partition(":")
             if colon:
-                below[name.strip()] = rest.split()
+                below[name.split()[0]] = rest.split()
     found, todo = set(), ["rangecheck_c"]
     while todo:
         name = todo.pop()
@@ -59,24 +60,28 @@ def kit():
 
 
 # ---- building
-def shown(command, log, tell):
-    """Runs a command at the root of the repository, with all that it prints in the log, and tells each crate as it is proved."""
+def shown(command, log, tell, folder=ROOT):
+    """Runs a command in a folder, with all that it prints in the log, and tells each crate as it is proved."""
+    crate, began = None, time.monotonic()
     try:
-        running = subprocess.Popen(command, cwd=ROOT, stdin=subprocess.DEVNULL, stdout=subprocess.PIPE, stderr=subprocess.STDOUT, text=True, errors="replace")
+        running = subprocess.Popen(command, cwd=folder, stdin=subprocess.DEVNULL, stdout=subprocess.PIPE, stderr=subprocess.STDOUT, text=True, errors="replace")
     except OSError as problem:
         raise Unbuilt("%s: %s" % (command[0], problem.strerror)) from None
     with running:
         for line in running.stdout:
             log.write(line)
-            found = re.match(r"rt: (\w+) (proved|NOT PROVED)\b(.*)", line)
-            if found and tell:
-                say("tower: %s %s%s" % found.groups())
+            found = re.match(r"crate (\w+): |logic=(not-)?proved\b", line)
+            if found and found.group(1):
+                crate = found.group(1)
+            elif found and crate and tell:
+                say("tower: %s %s (%d s)" % (crate, "NOT PROVED" if found.group(2) else "proved", time.monotonic() - began))
+                crate, began = None, time.monotonic()
     if running.returncode:
         raise Unbuilt("`%s` failed with status %d; what it said is in %s" % (" ".join(command), running.returncode, os.path.relpath(log.name)))
 
 
 def build():
-    """Proves and links the shared object. One process builds at a time; who waited finds it built."""
+    """Proves the static library and links the shared object. One process builds at a time; who waited finds them built."""
     for tool in ("rt", "cc"):
         if shutil.which(tool) is None:
             raise Unbuilt("the proved library isn't built, and there is no `%s` on the PATH to build it with" % tool)
@@ -85,10 +90,12 @@ def build():
     say("tower: proving and building the library: %s, once; rt's notes go to %s" % (BUILD_TIME, os.path.relpath(LOG)))
     now = digest()
     with open(LOG, "w", encoding="utf-8") as log:
-        shown(["rt", "check", *(name for name in crates() if name != "rangecheck_c")], log, True)
-        shown(["rt", "staticlib", "rangecheck_c"], log, False)
-        whole = ["-Wl,--whole-archive", ARCHIVE, "-Wl,--no-whole-archive"]
+        shown(["rt", "lib"], log, True, CRATE)
+        os.makedirs(os.path.dirname(ARCHIVE), exist_ok=True)
+        shutil.copyfile(os.path.join(CRATE, "out", "librangecheck_c.a"), ARCHIVE + ".new")
+        whole = ["-Wl,--whole-archive", ARCHIVE + ".new", "-Wl,--no-whole-archive"]
         shown(["cc", "-shared", "-o", LIBRARY + ".new", *whole], log, False)
+    os.replace(ARCHIVE + ".new", ARCHIVE)
     os.replace(LIBRARY + ".new", LIBRARY)
     with open(STAMP, "w", encoding="utf-8") as file:
         file.write(now)
@@ -96,10 +103,10 @@ def build():
 
 
 def fresh():
-    """Whether the shared object was built from the files as they are now."""
+    """Whether the libraries were built from the files as they are now."""
     try:
         with open(STAMP, encoding="utf-8", errors="replace") as file:
-            return os.path.exists(LIBRARY) and file.read() == digest()
+            return os.path.exists(LIBRARY) and os.path.exists(ARCHIVE) and file.read() == digest()
     except OSError:
         return False
 
@@ -140,7 +147,7 @@ def prove():
         with alone():
             os.makedirs(FOLDER, exist_ok=True)
             with open(LOG, "w", encoding="utf-8") as log:
-                shown(["rt", "check"], log, True)
+                shown(["rt", "all", "check"], log, True)
     except OSError as problem:
         raise Unbuilt("%s: %s" % (problem.filename, problem.strerror)) from None
     return CLAIM
