@@ -27,8 +27,8 @@ fn text_room() -> [u8; 72000]
 fn read_at(room: &mut [u8], from: usize, to: usize) -> usize
     requires { (from ≤ to) × (to ≤ length room.old) }
     ensures result_bound { from + result ≤ to }
-    ensures room_unchanged { take from room.new ≡ take from room.old }
-    ensures room_unchanged_2 { drop to room.new ≡ drop to room.old }
+    ensures before_stays { take from room.new ≡ take from room.old }
+    ensures behind_stays { drop to room.new ≡ drop to room.old }
 {
     io::read_full(0, &mut room[from..to])
 }
