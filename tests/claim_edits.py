@@ -15,6 +15,8 @@ EDITS = os.path.join(HERE, "claim_edits")
 WHOLE = ["interval", "words", "table", "analysis"]
 CUT = ["rules", "checker", "run"]
 CRATES = WHOLE + CUT + ["soundness"]
+# what stays of a lib.rt: that its crate asks for tactics, a type of `words`, and each type that it declares, with its derives
+DECLARED = r"^#!\[tactic\(auto\)\]$|^use words::\w+;$|^(?:#\[derive\([^)]*\)\]\n)?pub (?:struct|enum) \w+ \{.*?^\}$"
 
 
 def text_of(*path):
@@ -34,7 +36,7 @@ def laws_used(crates):
     todo = [("soundness", file[:-5]) for file in os.listdir(os.path.join(crates, "soundness/proofs")) if file.endswith(".antt")]
     while todo:
         crate, name = todo.pop()
-        for other, used in re.findall(r"^use Rattle·(\w+)(?:·proofs\.proofs|\.proofs)\.(\w+)", text_of(crates, crate, "proofs", name + ".antt"), re.M):
+        for other, used in re.findall(r"^use Rattle\.(\w+)\.proofs\.(\w+)", text_of(crates, crate, "proofs", name + ".antt"), re.M):
             if other in CUT and used not in names[other]:
                 names[other].add(used)
                 todo.append((other, used))
@@ -47,7 +49,7 @@ def cut_down(crates, crate, laws):
     kept = {"proofs/%s.antt" % name: text_of(crates, crate, "proofs", name + ".antt") for name in laws}
     kept["specs/Lib.antt"] = text_of(crates, crate, "specs/Lib.antt").replace("pub mod Examples\n", "")
     kept["proofs/Lib.antt"] = "".join("pub mod %s\n" % name for name in sorted(laws))
-    kept["src/lib.rt"] = "\n".join(re.findall(r"^use words::\w+;$|^pub (?:struct|enum) \w+ \{.*?^\}$", source, re.M | re.S)) + "\n"
+    kept["src/lib.rt"] = "\n".join(re.findall(DECLARED, source, re.M | re.S)) + "\n"
     for folder in "src", "proofs", "must-fail":
         shutil.rmtree(os.path.join(crates, crate, folder), ignore_errors=True)
     for file in glob.glob(os.path.join(crates, crate, "specs/Examples.antt")):
@@ -60,24 +62,25 @@ def cut_down(crates, crate, laws):
 def copied(top):
     """A repository of the crates up to `soundness`, with what has been proved of those below the ones that are cut down."""
     for crate in CRATES:
-        shutil.copytree(os.path.join(ROOT, "crates", crate), os.path.join(top, "crates", crate))
+        shutil.copytree(os.path.join(ROOT, "crates", crate), os.path.join(top, "crates", crate), ignore=shutil.ignore_patterns("out"))
     laws = laws_used(os.path.join(top, "crates"))
     for crate in CUT:
         cut_down(os.path.join(top, "crates"), crate, laws[crate])
     lines = text_of(ROOT, "crates.txt").splitlines()
     write("".join(line + "\n" for line in lines if line.split(":")[0] in CRATES), top, "crates.txt")
-    os.makedirs(os.path.join(top, "target/stamp"))
     for crate in WHOLE:
-        shutil.copytree(os.path.join(ROOT, "target/rlib", crate + ".rlib"), os.path.join(top, "target/rlib", crate + ".rlib"))
-        shutil.copy(os.path.join(ROOT, "target/stamp", crate), os.path.join(top, "target/stamp", crate))
+        built = os.path.join("crates", crate, "out/rlib")
+        if os.path.isdir(os.path.join(ROOT, built)):
+            shutil.copytree(os.path.join(ROOT, built), os.path.join(top, built))
 
 
 def checked(top):
-    """The crates that are proved there, and the first error."""
-    told = subprocess.run(["rt", "check", "soundness"], cwd=top, env={**os.environ, "RT_CUT": "0", "RT_JOBS": "1"}, capture_output=True, text=True)
-    said = told.stdout + told.stderr
-    errors = re.findall(r"crates/(\w+)/\S+: error: (.*(?:\n  .*)*)", said)
-    return set(re.findall(r"^rt: (\w+) proved", said, re.M)), errors[0] if errors else None
+    """The crates that are proved there, and the first error with its crate."""
+    told = subprocess.run(["rt", "all", "check", "--jobs", "1"], cwd=top, capture_output=True, text=True)
+    # a part for each crate under its name, and then the summary
+    parts = re.split(r"^== (\w+)\n", told.stdout + told.stderr, flags=re.M)
+    errors = [(crate, text) for crate, said in zip(parts[1::2], parts[2::2]) for text in re.findall(r"^\S+: error: (.*(?:\n  .*)*)", said, re.M)]
+    return set(re.findall(r"^(\w+): ok$", parts[-1], re.M)), errors[0] if errors else None
 
 
 # ---- the edits

@@ -2,14 +2,13 @@
 """Tries further wrong programs, those of tests/edits/CRATE: `tests/edits.py [CRATE..]`, after `rt check` or `rt ci`. The prover must refuse each.
 
 `rt must-fail` proves a crate from nothing for each edit in crates/CRATE/must-fail. The edits here show more faults of the same contracts. Each crate is
-proved once, in a copy of its own, and its edits are tried there by `rt dev`, which checks again only what an edit touches: a refusal there is one all the
+proved once, in a copy of its own, and its edits are tried there by `rt check`, which checks again only what an edit touches: a refusal there is one all the
 same. The copy without an edit must be proved, before the edits and after them, so that no edit is refused for what another left behind."""
-import glob, os, shutil, subprocess, sys, tempfile, time
+import glob, os, re, shutil, subprocess, sys, tempfile, time
 from concurrent.futures import ThreadPoolExecutor
 
 HERE = os.path.dirname(os.path.abspath(__file__))
 ROOT = os.path.dirname(HERE)
-KEPT = ["crates", "crates.txt", "target/rlib", "target/stamp", "target/inc"]
 
 
 def text_of(path):
@@ -26,20 +25,20 @@ def edits_of(crate):
     return sorted(glob.glob(os.path.join(HERE, "edits", crate, "*.edit")))
 
 
-def copied(top):
-    for name in KEPT:
-        source, copy = os.path.join(ROOT, name), os.path.join(top, name)
-        if os.path.isdir(source):
-            shutil.copytree(source, copy)
-        elif os.path.exists(source):
-            shutil.copy(source, copy)
+def copied(top, crate):
+    """The crates with the libraries that were built of them, and for this crate what its own check kept."""
+    shutil.copy(os.path.join(ROOT, "crates.txt"), top)
+    shutil.copytree(os.path.join(ROOT, "crates"), os.path.join(top, "crates"), ignore=shutil.ignore_patterns("incremental"))
+    kept = os.path.join("crates", crate, "out/incremental")
+    if os.path.isdir(os.path.join(ROOT, kept)):
+        shutil.copytree(os.path.join(ROOT, kept), os.path.join(top, kept))
 
 
 def checked(top, crate):
     """'proved', 'refused' by the prover, or 'no verdict' (the text is no program, say), and the first error."""
-    done = subprocess.run(["rt", "dev", crate], cwd=top, capture_output=True, text=True, env=dict(os.environ, RT_CUT="0"))
+    done = subprocess.run(["rt", "check"], cwd=os.path.join(top, "crates", crate), capture_output=True, text=True)
     lines = (done.stdout + done.stderr).split("\n")
-    errors = [line for line in lines if ": error" in line]
+    errors = [line for line in lines if ": error" in line or re.match(r"note: src/\S+ it is not proved", line)]
     refused = done.returncode == 1 and any(line.startswith("logic=not-proved") for line in lines)
     verdict = "proved" if done.returncode == 0 else "refused" if refused else "no verdict"
     return verdict, errors[0].replace(top + "/", "")[:300] if errors else "no error was told"
@@ -77,7 +76,7 @@ def unedited(top, crate, when):
 def answered(crate):
     """How many edits of a crate are not refused; a copy that isn't proved without them counts as one."""
     with tempfile.TemporaryDirectory() as top:
-        copied(top)
+        copied(top, crate)
         if not unedited(top, crate, "before"):
             return 1
         wrong = sum(not tried(top, crate, path) for path in edits_of(crate))
