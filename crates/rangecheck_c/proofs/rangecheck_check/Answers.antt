@@ -8,11 +8,13 @@ use Rattle.rangecheck_c.proofs.rangecheck_check.Goals as goal
 pub returns-in-Accepted : goal.returns-in-Accepted
 unfolding verdict_numbers numbers_by
 returns-in-Accepted c =
-    let told = c in
-    record { value = c.accepted.ensures ∙ ap answer_of (sym (ap verdict_numbers told.in-Accepted.is) ∙ told.check.ensures.result_value); alarms_after = told.check.ensures.alarms_after }
+    let told = c.check.ensures in
+    let is = ap verdict_numbers c.in-Accepted.is in
+    record { value = c.accepted.ensures ∙ ap answer_of (sym is ∙ told.result_value); alarms_after = told.alarms_after }
 
 pub returns-in-Refused : goal.returns-in-Refused
 unfolding verdict_numbers numbers_by
 returns-in-Refused c =
-    let told = c in
-    record { value = c.refused.ensures ∙ ap answer_of (sym (ap verdict_numbers told.in-Refused.is) ∙ told.check.ensures.result_value); alarms_after = told.check.ensures.alarms_after }
+    let told = c.check.ensures in
+    let is = ap verdict_numbers c.in-Refused.is in
+    record { value = c.refused.ensures ∙ ap answer_of (sym is ∙ told.result_value); alarms_after = told.alarms_after }

@@ -4,10 +4,10 @@ use Rattle.rangecheck_c.proofs.rangecheck_propose.Goals as goal
 
 pub returns-in-Passed : goal.returns-in-Passed
 returns-in-Passed c =
-    let told = c in
-    record { value = proposal-told told.propose-made.ensures.value told.in-Passed.is c.proposed.ensures; proposal_after = told.propose-made.ensures.proposal_after }
+    let made = c.propose-made.ensures in
+    record { value = proposal-told made.value c.in-Passed.is c.proposed.ensures; proposal_after = made.proposal_after }
 
 pub returns-in-Broken : goal.returns-in-Broken
 returns-in-Broken c =
-    let told = c in
-    record { value = refusal-told told.propose-made.ensures.value told.in-Broken.is c.proposed-in-Broken.ensures; proposal_after = told.propose-made.ensures.proposal_after }
+    let made = c.propose-made.ensures in
+    record { value = refusal-told made.value c.in-Broken.is c.proposed-in-Broken.ensures; proposal_after = made.proposal_after }

@@ -5,5 +5,4 @@ use Rattle.rangecheck_c.proofs.refused.Goals as goal
 
 pub returns : goal.returns
 unfolding numbers_by
-returns c =
-    refl
+returns c = refl

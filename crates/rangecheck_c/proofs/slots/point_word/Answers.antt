@@ -5,5 +5,4 @@ use mir.Syntax.{w64}
 use Rattle.rangecheck_c.proofs.slots.point_word.Goals as goal
 
 pub returns : goal.returns
-returns c =
-    to_z_pos w64 (omega (arith, c.ranges.p))
+returns c = to_z_pos w64 (omega (arith, c.ranges.p))

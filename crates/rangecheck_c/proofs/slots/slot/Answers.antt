@@ -1,6 +1,7 @@
 -- `rangecheck_c::slots::slot` meets its contract: the word of the part that the index lies in. Assumes nothing.
 use Prim.Native.Nat.{◌^◌, ◌<◌}
 use mathlib.Core.Path.{◌≡◌, ◌∙◌}
+use native.Mathlib.Omega.{arith}
 use lib.IntN.{ℤ}
 use lib.Signed.{mag}
 use mir.Facts.{to_z-of_z}
@@ -19,21 +20,18 @@ returns-then-i-lt8 c = handed64 (c.point_word.ensures ∙ slot-point _ _ c.if-i-
 
 pub returns-then-i-lt24 : goal.returns-then-i-lt24
 returns-then-i-lt24 c =
-    let read = c in
-    let here = read in
-    handed64 (c.widen.ensures ∙ by_bits w32 _ read.widen-arg-1.given ∙ slot-value _ _ here.if-i-lt8.false here.if-i-lt24.true) c.widen.type_inv
+    let word = c.widen in
+    handed64 (word.ensures ∙ by_bits w32 _ (omega arith) ∙ slot-value _ _ c.if-i-lt8.false c.if-i-lt24.true) word.type_inv
 
 pub returns-then-i-lt32 : goal.returns-then-i-lt32
 returns-then-i-lt32 c =
-    let read = c in
-    let here = read in
-    handed64 (c.owner_word.ensures ∙ by_bits w8 _ read.owner_word-arg-1.given ∙ slot-owner _ _ here.if-i-lt24.false here.if-i-lt32.true) c.owner_word.type_inv
+    let word = c.owner_word in
+    handed64 (word.ensures ∙ by_bits w8 _ (omega arith) ∙ slot-owner _ _ c.if-i-lt24.false c.if-i-lt32.true) word.type_inv
 
 pub returns-then-i-lt40 : goal.returns-then-i-lt40
 returns-then-i-lt40 c =
-    let read = c in
-    let here = read in
-    handed64 (c.node_word.ensures ∙ by_bits w16 _ read.node_word-arg-1.given ∙ slot-stop-node _ _ here.if-i-lt32.false here.if-i-lt40.true) c.node_word.type_inv
+    let word = c.node_word in
+    handed64 (word.ensures ∙ by_bits w16 _ (omega arith) ∙ slot-stop-node _ _ c.if-i-lt32.false c.if-i-lt40.true) word.type_inv
 
 pub returns : goal.returns
 returns c = handed64 (c.kind_word.ensures ∙ slot-stop-kind _ _ c.if-i-lt40.false) c.kind_word.type_inv
