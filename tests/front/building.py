@@ -78,7 +78,7 @@ CALLED = ["rt lib", "cc"]
 
 
 def built_once(copy):
-    whole = STARTS % "target/python/build.log" + r"tower: low proved \(\d+ s\)\ntower: middle proved \(\d+ s\)\n" + ENDS
+    whole = STARTS % "target/python/build.log" + r"tower: low proved \(after \d+ s\)\ntower: middle proved \(after \d+ s\)\n" + ENDS
     out, error, status = copy.run("check")
     expect("the first check", (out, re.fullmatch(whole, error) is not None or error, status, copy.calls()), (b"accepted 0\n", True, 0, CALLED))
     log = contents(copy.log).decode()
@@ -132,7 +132,7 @@ def unbuilt(copy):
                     out, error, status = copy.run(*options)
                     last = error.splitlines(True)[-1]
                     expect("%s with %s" % (options, sign), (out, re.fullmatch(failed % command, last) is not None or last, status), (b"", True, 2))
-                    expect("what is told with %s" % sign, (re.search(r"tower: middle NOT PROVED \(\d+ s\)\n", error) is not None, "Traceback" in error), (told, False))
+                    expect("what is told with %s" % sign, (re.search(r"tower: middle NOT PROVED \(after \d+ s\)\n", error) is not None, "Traceback" in error), (told, False))
                     expect("no new library with %s" % sign, (os.path.exists(copy.library), os.path.exists(copy.stamp)), (before, before))
                 if sign != "fail-cc":
                     expect("the notes of %s" % sign, "a note on what failed\n" in contents(copy.log).decode(), True)
@@ -170,7 +170,7 @@ def proving(copy):
     copy.fresh()
     out, error, status = copy.run("prove")
     want = ["tower: %s proved" % crate for crate in ("low", "middle", "other", "soundness")]
-    told = [re.sub(r" \(\d+ s\)$", "", line) for line in error.splitlines()[1:]]
+    told = [re.sub(r" \(after \d+ s\)$", "", line) for line in error.splitlines()[1:]]
     expect("prove", (out[:8], out.count(b"\n"), told, status, copy.calls()), (b"Proved: ", 1, want, 0, ["rt all check"]))
     expect("what prove does", "about " in error.splitlines()[0] and "target/python/build.log" in error.splitlines()[0], True)
     expect("its notes", "library soundness: a note of rt\n" in contents(copy.log).decode(), True)

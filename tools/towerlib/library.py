@@ -74,8 +74,8 @@ def shown(command, log, tell, folder=ROOT):
             if found and found.group(1):
                 crate = found.group(1)
             elif found and crate and tell:
-                say("tower: %s %s (%d s)" % (crate, "NOT PROVED" if found.group(2) else "proved", time.monotonic() - began))
-                crate, began = None, time.monotonic()
+                say("tower: %s %s (after %d s)" % (crate, "NOT PROVED" if found.group(2) else "proved", time.monotonic() - began))
+                crate = None
     if running.returncode:
         raise Unbuilt("`%s` failed with status %d; what it said is in %s" % (" ".join(command), running.returncode, os.path.relpath(log.name)))
 
