@@ -1,9 +1,8 @@
 #!/usr/bin/env python3
 """Tries further wrong programs, those of tests/edits/CRATE: `tests/edits.py [CRATE..]`, after `rt check` or `rt ci`. The prover must refuse each.
 
-`rt must-fail` proves a crate from nothing for each edit in crates/CRATE/must-fail. The edits here show more faults of the same contracts. Each crate is
-proved once, in a copy of its own, and its edits are tried there by `rt check`, which checks again only what an edit touches: a refusal there is one all the
-same. The copy without an edit must be proved, before the edits and after them, so that no edit is refused for what another left behind."""
+They show more faults of the contracts that the edits in crates/CRATE/must-fail are for, which `rt ci` tries. Each crate is proved once, in a copy of its own,
+and its edits are tried there by `rt check`, which checks again only what an edit touches: a refusal there is one all the same. The copy without an edit must be proved, before the edits and after them, so that no edit is refused for what another left behind."""
 import glob, os, re, shutil, subprocess, sys, tempfile, time
 from concurrent.futures import ThreadPoolExecutor
 
