@@ -3,9 +3,8 @@
 of a step so that the claim is false, and the proof of `soundness` must be refused at the law and for the fact that the edit names.
 
 `rt must-fail` checks again only the crate that an edit changes. There the code no longer meets the definition, which says nothing of the claim. So
-`rules`, `checker` and `run` are cut down, in a copy, to what the claim is about: their definitions without the worked examples, the types that they
-declare, and the laws that `soundness` rests on. All of that must still be proved; `soundness` alone may be refused. The copy without an edit must be
-proved."""
+`rules`, `checker` and `run` are cut down, in a copy, to what the claim is about: the definitions and the laws that `soundness` rests on, and the types
+that their roots declare. All of that must still be proved; `soundness` alone may be refused. The copy without an edit must be proved."""
 import glob, os, re, shutil, subprocess, sys, tempfile
 from concurrent.futures import ThreadPoolExecutor
 
@@ -30,30 +29,28 @@ def write(text, *path):
 
 
 # ---- the copy
-def laws_used(crates):
-    """The law files of each crate that `soundness` rests on."""
-    names = {crate: set() for crate in CRATES}
-    todo = [("soundness", file[:-5]) for file in os.listdir(os.path.join(crates, "soundness/proofs")) if file.endswith(".antt")]
+def used(crates):
+    """The files that `soundness` rests on of each crate that is cut down: a folder, specs or proofs, and a name."""
+    kept = {crate: set() for crate in CUT}
+    todo = glob.glob(os.path.join(crates, "soundness/specs/*.antt")) + glob.glob(os.path.join(crates, "soundness/proofs/*.antt"))
     while todo:
-        crate, name = todo.pop()
-        for other, used in re.findall(r"^use Rattle\.(\w+)\.proofs\.(\w+)", text_of(crates, crate, "proofs", name + ".antt"), re.M):
-            if other in CUT and used not in names[other]:
-                names[other].add(used)
-                todo.append((other, used))
-    return names
+        for crate, folder, name in re.findall(r"^use Rattle\.(\w+)\.(specs|proofs)\.(\w+)", text_of(todo.pop()), re.M):
+            file = os.path.join(crates, crate, folder, name + ".antt")
+            # a type that the crate declares has no file
+            if crate in CUT and os.path.isfile(file) and (folder, name) not in kept[crate]:
+                kept[crate].add((folder, name))
+                todo.append(file)
+    return kept
 
 
-def cut_down(crates, crate, laws):
-    """Leaves the types that the crate declares, its definitions but for worked examples, and those laws."""
-    source = text_of(crates, crate, "src/lib.rt")
-    kept = {"proofs/%s.antt" % name: text_of(crates, crate, "proofs", name + ".antt") for name in laws}
-    kept["specs/Lib.antt"] = text_of(crates, crate, "specs/Lib.antt").replace("pub mod Examples\n", "")
-    kept["proofs/Lib.antt"] = "".join("pub mod %s\n" % name for name in sorted(laws))
-    kept["src/lib.rt"] = "\n".join(re.findall(DECLARED, source, re.M | re.S)) + "\n"
-    for folder in "src", "proofs", "must-fail":
+def cut_down(crates, crate, files):
+    """Leaves the types that the crate's root declares, and those definitions and laws."""
+    kept = {"%s/%s.antt" % file: text_of(crates, crate, "%s/%s.antt" % file) for file in files}
+    for folder in "specs", "proofs":
+        kept[folder + "/Lib.antt"] = "".join("pub mod %s\n" % name for where, name in sorted(files) if where == folder)
+    kept["src/lib.rt"] = "\n".join(re.findall(DECLARED, text_of(crates, crate, "src/lib.rt"), re.M | re.S)) + "\n"
+    for folder in "src", "specs", "proofs", "must-fail":
         shutil.rmtree(os.path.join(crates, crate, folder), ignore_errors=True)
-    for file in glob.glob(os.path.join(crates, crate, "specs/Examples.antt")):
-        os.remove(file)
     for file, text in kept.items():
         os.makedirs(os.path.dirname(os.path.join(crates, crate, file)), exist_ok=True)
         write(text, crates, crate, file)
@@ -63,9 +60,8 @@ def copied(top):
     """A repository of the crates up to `soundness`, with what has been proved of those below the ones that are cut down."""
     for crate in CRATES:
         shutil.copytree(os.path.join(ROOT, "crates", crate), os.path.join(top, "crates", crate), ignore=shutil.ignore_patterns("out"))
-    laws = laws_used(os.path.join(top, "crates"))
-    for crate in CUT:
-        cut_down(os.path.join(top, "crates"), crate, laws[crate])
+    for crate, files in used(os.path.join(top, "crates")).items():
+        cut_down(os.path.join(top, "crates"), crate, files)
     lines = text_of(ROOT, "crates.txt").splitlines()
     write("".join(line + "\n" for line in lines if line.split(":")[0] in CRATES), top, "crates.txt")
     for crate in WHOLE:

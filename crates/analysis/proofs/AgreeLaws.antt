@@ -1,8 +1,8 @@
 -- Two rows that agree on every variable that a tree reads give it the same interval, decision and alarms (document 02, request 3), whatever a choice
 -- narrows on the way: what narrowing makes of both agrees again.
 -- Assumes nothing.
-use Prim.Native.Nat.{ℕ, zero, suc, ◌≤◌}
-use mathlib.Core.Path.{◌≡◌, refl, sym, ap, ◌∙◌}
+use Prim.Native.Nat.{ℕ, max, ◌≤◌}
+use mathlib.Core.Path.{◌≡◌, refl, sym, ap, ap₂, ◌∙◌}
 use mathlib.Core.Bool.{Bool, true, false, cond, ◌||◌}
 use mathlib.Core.List.{List, [], ◌∷◌, ◌++◌}
 use native.Mathlib.Omega.{arith}
@@ -11,8 +11,7 @@ use lib.IntN.{ℤ, pos}
 use lib.ListN.{length, set, drop, length-set, length-drop, get_or-eq_default}
 use lib.Seq.{get_or-set_other}
 use lib.Signed.{le_z, ≤ℤ_refl}
-use Rattle.interval.specs.Integer.{min_z, max_z}
-use Rattle.interval.specs.Interval.{from_to, on_ends, Within}
+use Rattle.interval.specs.Interval.{from_to, on_ends, Within, span}
 use Rattle.interval.specs.Lattice.{join_of, meet_of}
 use Rattle.interval.specs.Arithmetic.{negate_of, operate_of}
 use Rattle.interval.specs.Compare.{allows, both_of, either_of, opposite_of, compare_of}
@@ -20,89 +19,70 @@ use Rattle.interval.specs.Narrow.{cuts_of}
 use Rattle.interval.specs.declared.Decision.{Decision}
 use Rattle.interval.specs.declared.Comparison.{Comparison}
 use Rattle.interval.specs.declared.Interval.{Interval}
-use Rattle.interval.specs.declared.Interval.TheVariants.{None, Between}
 use Rattle.interval.proofs.IntegerLaws.{min-is, max-is, ≤-antisym}
 use Rattle.interval.proofs.IntervalLaws.{first, last}
 use Rattle.interval.proofs.LatticeLaws.{within-holds, meet-within-left, Ordered, meet-ordered}
+use Rattle.std.proofs.lemmas.Grind.{common_steps}
 use Rattle.words.specs.Words.{word_of}
 use Rattle.words.proofs.Bools.{clash, or_left, or_right}
 use Rattle.table.specs.Tree.{Arith, constant, input, variable, negation, binary, choice, no_arith, Cond, compare, both, either, is_not, no_cond}
 use Rattle.analysis.specs.declared.Alarm.{Alarm}
 use Rattle.analysis.specs.Alarms.{told_of}
-use Rattle.analysis.specs.Rows.{Row, range_of, Maybe, none, some, row_if, then_row, put_of, meet_at_of, each_rest, each, join_rows_of}
+use Rattle.analysis.specs.Rows.{Row, range_of, row_if, then_row, put_of, meet_at_of, each_rest, each, join_rows_of}
 use Rattle.analysis.specs.Analysis.{branch_of, range_on, alarms_on, carry_of, carry_both_of, value_of, alarms_of, decision_of, cond_alarms_of, narrow_of}
 use Rattle.analysis.specs.Reads.{reads, cond_reads, Agree, Paired}
 use Rattle.analysis.proofs.RowLaws.{joined, joined-low-is, joined-high-is}
-
-same2 : {A B C : Type 0} (f : A → B → C) {a a' : A} {b b' : B} → a ≡ a' → b ≡ b' → f a b ≡ f a' b'
-same2 {A} {B} f {a} {a'} {b} {b'} p q = ap (λ (x : A). f x b) p ∙ ap (λ (y : B). f a' y) q
+use Rattle.std.specs.Int.{int_min, int_max}
+use Rattle.std.specs.Prelude.{None, Option, Some}
 
 -- ---- words
 -- a word that is put in place is there afterwards, unless it is past the end; there every word is 0
 abbrev Fits : List ℤ → ℕ → ℤ → Type 0
 Fits l v a = length l ≤ v → a ≡ pos 0
 
-next : (x : ℤ) (l : List ℤ) (v : ℕ) (a : ℤ) → Fits (x ∷ l) (suc v) a → Fits l v a
-next x l v a f h = f (omega arith)
-
 set_agrees : (l m : List ℤ) (v w : ℕ) (a : ℤ) → Fits l v a → Fits m v a → word_of l w ≡ word_of m w → word_of (set l v a) w ≡ word_of (set m v a) w
-set_agrees [] [] v w a f g h = h
-set_agrees [] (y ∷ m) zero zero a f g h = sym (f (omega arith))
-set_agrees [] (y ∷ m) zero (suc w) a f g h = h
-set_agrees [] (y ∷ m) (suc v) zero a f g h = h
-set_agrees [] (y ∷ m) (suc v) (suc w) a f g h = set_agrees [] m v w a (λ e. f (omega arith)) (next y m v a g) h
-set_agrees (x ∷ l) [] zero zero a f g h = g (omega arith)
-set_agrees (x ∷ l) [] zero (suc w) a f g h = h
-set_agrees (x ∷ l) [] (suc v) zero a f g h = h
-set_agrees (x ∷ l) [] (suc v) (suc w) a f g h = set_agrees l [] v w a (next x l v a f) (λ e. g (omega arith)) h
-set_agrees (x ∷ l) (y ∷ m) zero zero a f g h = refl
-set_agrees (x ∷ l) (y ∷ m) zero (suc w) a f g h = h
-set_agrees (x ∷ l) (y ∷ m) (suc v) zero a f g h = h
-set_agrees (x ∷ l) (y ∷ m) (suc v) (suc w) a f g h = set_agrees l m v w a (next x l v a f) (next y m v a g) h
+set_agrees l m v w a f g h = grind (arith, common_steps)
 
 rest-length : (f : ℤ → ℤ → ℤ) (m : List ℤ) → length (each_rest f m) ≡ length m
 unfolding each_rest
 rest-length f [] = refl
 rest-length f (y ∷ m) = let h = rest-length f m in omega arith
 
-each-length : (f g : ℤ → ℤ → ℤ) (l m l' m' : List ℤ) → length l ≡ length l' → length m ≡ length m' → length (each f l m) ≡ length (each g l' m')
+each-length : (f : ℤ → ℤ → ℤ) (l m : List ℤ) → length (each f l m) ≡ max (length l) (length m)
 unfolding each
-each-length f g [] m [] m' e h = rest-length f m ∙ h ∙ sym (rest-length g m')
-each-length f g [] m (y ∷ l') m' e h = absurd (omega arith)
-each-length f g (x ∷ l) m [] m' e h = absurd (omega arith)
-each-length f g (x ∷ l) m (y ∷ l') m' e h =
-    let k = each-length f g l (drop 1 m) l' (drop 1 m') (omega arith) (simp length-drop (omega arith)) in omega arith
+each-length f [] m = omega (arith, rest-length f m)
+each-length f (x ∷ l) m = omega (arith, each-length f l (drop 1 m), length-drop 1 m)
 
 -- ---- intervals
-abbrev low_end : Interval → ℤ
+abbrev low_end : Option Interval → ℤ
 low_end None = pos 0
-low_end (Between a b) = a
+low_end (Some e) = e.low
 
-abbrev high_end : Interval → ℤ
+abbrev high_end : Option Interval → ℤ
 high_end None = pos 0
-high_end (Between a b) = b
+high_end (Some e) = e.high
 
-abbrev is_some : Interval → Bool
+abbrev is_some : Option Interval → Bool
 is_some None = false
-is_some (Between a b) = true
+is_some (Some e) = true
 
 -- the ends of an interval that isn't empty are known from it
 ends-known : (a b c d : ℤ) → from_to a b ≡ from_to c d → le_z a b ≡ true → (a ≡ c) × (b ≡ d)
 ends-known a b c d e h = by (le_z c d) (rw h at e)
   where
-    by : (t : Bool) → Between a b ≡ cond t (Between c d) None → (a ≡ c) × (b ≡ d)
+    by : (t : Bool) → span a b ≡ cond t (span c d) None → (a ≡ c) × (b ≡ d)
     by true q = (ap low_end q, ap high_end q)
     by false q = clash (ap is_some q)
 
 -- a part of 0..0 is 0..0
-part-of-zero : (s i : Interval) {a b : ℤ} → s ≡ Between (pos 0) (pos 0) → meet_of s i ≡ Between a b → (a ≡ pos 0) × (b ≡ pos 0)
+part-of-zero : (s i : Option Interval) {a b : ℤ} → s ≡ span (pos 0) (pos 0) → meet_of s i ≡ span a b → (a ≡ pos 0) × (b ≡ pos 0)
 part-of-zero s i {a} {b} e h = (end a (first o), end b (last o))
   where
-    o : Ordered (Between a b)
+    o : Ordered (span a b)
     o = rw h at (meet-ordered s i)
 
     end : (z : ℤ) → Within a b z → z ≡ pos 0
-    end z p = let zero = within-holds (Between a b) (Between (pos 0) (pos 0)) (rw (h, e) at (meet-within-left s i)) z p in ≤-antisym zero.high zero.low
+    end z p = let zero = within-holds (span a b) (span (pos 0) (pos 0)) (rw (h, e) at (meet-within-left s i)) z p in ≤-antisym zero.high zero.low
 
 -- ---- rows that agree where P says so, through narrowing
 abbrev some_at : Row → ℕ → Bool
@@ -132,11 +112,11 @@ module _ (P : ℕ → Type 0) (R S : Row) (agree : (v : ℕ) → P v → range_o
   pub at_first : Paired R → Paired S → Alike R S
   at_first p q = record { left = p; right = q; full = λ v h e. ends-known _ _ _ _ (agree v h) e; empty = λ v h e. ((refl, refl), (refl, refl)) }
 
-  abbrev pub MaybeAlike : Maybe → Maybe → Type 0
-  MaybeAlike none none = Unit {0}
-  MaybeAlike none (some s) = ⊥
-  MaybeAlike (some r) none = ⊥
-  MaybeAlike (some r) (some s) = Alike r s
+  abbrev pub MaybeAlike : Option Row → Option Row → Type 0
+  MaybeAlike None None = Unit {0}
+  MaybeAlike None (Some s) = ⊥
+  MaybeAlike (Some r) None = ⊥
+  MaybeAlike (Some r) (Some s) = Alike r s
 
   module _ {r s : Row} (h : Alike r s) (v : ℕ) (p : P v) where
     both-empty : some_at R v ≡ false → (range_of r v ≡ None) × (range_of s v ≡ None)
@@ -154,7 +134,7 @@ module _ (P : ℕ → Type 0) (R S : Row) (agree : (v : ℕ) → P v → range_o
         by false e = let ends = both-empty e in ends.0 ∙ sym ends.1
 
     -- where a part of the interval is left, it wasn't empty
-    was-full : (i : Interval) {a b : ℤ} → meet_of (range_of s v) i ≡ Between a b → some_at R v ≡ true
+    was-full : (i : Option Interval) {a b : ℤ} → meet_of (range_of s v) i ≡ span a b → some_at R v ≡ true
     unfolding meet_of on_ends
     was-full i {a} {b} m = by (some_at R v) refl
       where
@@ -163,7 +143,7 @@ module _ (P : ℕ → Type 0) (R S : Row) (agree : (v : ℕ) → P v → range_o
         by false e = clash (sym (ap is_some (rw (both-empty e).1 at m)))
 
   -- the ends that are put in a row fit, for past its end stands 0..0
-  module _ (r : Row) (v : ℕ) (i : Interval) {a b : ℤ} (q : Paired r) (m : meet_of (range_of r v) i ≡ Between a b) where
+  module _ (r : Row) (v : ℕ) (i : Option Interval) {a b : ℤ} (q : Paired r) (m : meet_of (range_of r v) i ≡ span a b) where
     past : length r.lows ≤ v → (a ≡ pos 0) × (b ≡ pos 0)
     past l = part-of-zero (range_of r v) i (rw (get_or-eq_default r.lows (pos 0) {n = v} l, get_or-eq_default r.highs (pos 0) {n = v} (omega (arith, q, l)))) m
 
@@ -176,40 +156,40 @@ module _ (P : ℕ → Type 0) (R S : Row) (agree : (v : ℕ) → P v → range_o
   put-apart : (l : List ℤ) (v w : ℕ) (a : ℤ) {x : ℤ} → some_at R v ≡ true → some_at R w ≡ false → word_of l w ≡ x → word_of (set l v a) w ≡ x
   put-apart l v w a e f h = get_or-set_other l v w a (pos 0) (λ j. clash (sym (ap (some_at R) j ∙ e) ∙ f)) ∙ h
 
-  meet_at-alike : (r s : Row) (v : ℕ) (i : Interval) → P v → Alike r s → MaybeAlike (meet_at_of r v i) (meet_at_of s v i)
+  meet_at-alike : (r s : Row) (v : ℕ) (i : Option Interval) → P v → Alike r s → MaybeAlike (meet_at_of r v i) (meet_at_of s v i)
   unfolding meet_at_of put_of
   meet_at-alike r s v i p h = rw (range-alike h v p) (by (meet_of (range_of s v) i) refl)
     where
-      by : (m : Interval) → meet_of (range_of s v) i ≡ m → MaybeAlike (put_of r v m) (put_of s v m)
+      by : (m : Option Interval) → meet_of (range_of s v) i ≡ m → MaybeAlike (put_of r v m) (put_of s v m)
       by None e = tt
-      by (Between a b) e =
-          let e' : meet_of (range_of r v) i ≡ Between a b = rw (range-alike h v p) e in
+      by (Some d) e =
+          let e' : meet_of (range_of r v) i ≡ span d.low d.high = rw (range-alike h v p) e in
           let full = was-full h v p i e in
           record {
-            left = length-set r.lows v a ∙ h.left ∙ sym (length-set r.highs v b);
-            right = length-set s.lows v a ∙ h.right ∙ sym (length-set s.highs v b);
+            left = length-set r.lows v d.low ∙ h.left ∙ sym (length-set r.highs v d.high);
+            right = length-set s.lows v d.low ∙ h.right ∙ sym (length-set s.highs v d.high);
             full = λ w q t. (
-              set_agrees r.lows s.lows v w a (low_fits r v i h.left e') (low_fits s v i h.right e) (h.full w q t).0,
-              set_agrees r.highs s.highs v w b (high_fits r v i h.left e') (high_fits s v i h.right e) (h.full w q t).1,
+              set_agrees r.lows s.lows v w d.low (low_fits r v i h.left e') (low_fits s v i h.right e) (h.full w q t).0,
+              set_agrees r.highs s.highs v w d.high (high_fits r v i h.left e') (high_fits s v i h.right e) (h.full w q t).1,
             );
             empty = λ w q t.
                 let ends = h.empty w q t in (
-                  (put-apart r.lows v w a full t ends.0.0, put-apart r.highs v w b full t ends.0.1),
-                  (put-apart s.lows v w a full t ends.1.0, put-apart s.highs v w b full t ends.1.1),
+                  (put-apart r.lows v w d.low full t ends.0.0, put-apart r.highs v w d.high full t ends.0.1),
+                  (put-apart s.lows v w d.low full t ends.1.0, put-apart s.highs v w d.high full t ends.1.1),
                 );
           }
 
-  then-alike : (m n : Maybe) (f g : Row → Maybe) → MaybeAlike m n → ((r s : Row) → Alike r s → MaybeAlike (f r) (g s)) → MaybeAlike (then_row m f) (then_row n g)
+  then-alike : (m n : Option Row) (f g : Row → Option Row) → MaybeAlike m n → ((r s : Row) → Alike r s → MaybeAlike (f r) (g s)) → MaybeAlike (then_row m f) (then_row n g)
   unfolding then_row
-  then-alike none none f g h k = tt
-  then-alike none (some s) f g h k = absurd h
-  then-alike (some r) none f g h k = absurd h
-  then-alike (some r) (some s) f g h k = k r s h
+  then-alike None None f g h k = tt
+  then-alike None (Some s) f g h k = absurd h
+  then-alike (Some r) None f g h k = absurd h
+  then-alike (Some r) (Some s) f g h k = k r s h
 
   joined-ends : (r r' s s' : Row) (v : ℕ) → SameEnds r s v → SameEnds r' s' v → SameEnds (joined r r') (joined s s') v
   joined-ends r r' s s' v e f = (
-    joined-low-is r r' v ∙ same2 min_z e.0 f.0 ∙ sym (joined-low-is s s' v),
-    joined-high-is r r' v ∙ same2 max_z e.1 f.1 ∙ sym (joined-high-is s s' v),
+    joined-low-is r r' v ∙ ap₂ int_min e.0 f.0 ∙ sym (joined-low-is s s' v),
+    joined-high-is r r' v ∙ ap₂ int_max e.1 f.1 ∙ sym (joined-high-is s s' v),
   )
 
   joined-itself : (r : Row) (v : ℕ) → SameEnds (joined r r) r v
@@ -217,8 +197,8 @@ module _ (P : ℕ → Type 0) (R S : Row) (agree : (v : ℕ) → P v → range_o
 
   joined-alike : (r r' s s' : Row) → Alike r s → Alike r' s' → Alike (joined r r') (joined s s')
   joined-alike r r' s s' h k = record {
-    left = each-length min_z max_z r.lows r'.lows r.highs r'.highs h.left k.left;
-    right = each-length min_z max_z s.lows s'.lows s.highs s'.highs h.right k.right;
+    left = omega (arith, each-length int_min r.lows r'.lows, each-length int_max r.highs r'.highs, h.left, k.left);
+    right = omega (arith, each-length int_min s.lows s'.lows, each-length int_max s.highs s'.highs, h.right, k.right);
     full = λ v p e. joined-ends r r' s s' v (h.full v p e) (k.full v p e);
     empty = λ v p e.
         let a = h.empty v p e in
@@ -228,38 +208,38 @@ module _ (P : ℕ → Type 0) (R S : Row) (agree : (v : ℕ) → P v → range_o
         );
   }
 
-  join_rows-alike : (l m n o : Maybe) → MaybeAlike l n → MaybeAlike m o → MaybeAlike (join_rows_of l m) (join_rows_of n o)
+  join_rows-alike : (l m n o : Option Row) → MaybeAlike l n → MaybeAlike m o → MaybeAlike (join_rows_of l m) (join_rows_of n o)
   unfolding join_rows_of
-  join_rows-alike none m none o h k = k
-  join_rows-alike none m (some s) o h k = absurd h
-  join_rows-alike (some r) m none o h k = absurd h
-  join_rows-alike (some r) none (some s) none h k = h
-  join_rows-alike (some r) none (some s) (some o) h k = absurd k
-  join_rows-alike (some r) (some m) (some s) none h k = absurd k
-  join_rows-alike (some r) (some m) (some s) (some o) h k = joined-alike r m s o h k
+  join_rows-alike None m None o h k = k
+  join_rows-alike None m (Some s) o h k = absurd h
+  join_rows-alike (Some r) m None o h k = absurd h
+  join_rows-alike (Some r) None (Some s) None h k = h
+  join_rows-alike (Some r) None (Some s) (Some o) h k = absurd k
+  join_rows-alike (Some r) (Some m) (Some s) None h k = absurd k
+  join_rows-alike (Some r) (Some m) (Some s) (Some o) h k = joined-alike r m s o h k
 
-  row_if-alike : (b : Bool) (m n : Maybe) → MaybeAlike m n → MaybeAlike (row_if b m) (row_if b n)
+  row_if-alike : (b : Bool) (m n : Option Row) → MaybeAlike m n → MaybeAlike (row_if b m) (row_if b n)
   unfolding row_if
   row_if-alike true m n h = h
   row_if-alike false m n h = tt
 
   -- what is read on alike rows is the same
-  on_alike : {A : Type 0} (on : Maybe → (Row → A) → A) (e : (r : Row) (f : Row → A) → on (some r) f ≡ f r) (m n : Maybe) (f : Row → A) → MaybeAlike m n
+  on_alike : {A : Type 0} (on : Option Row → (Row → A) → A) (e : (r : Row) (f : Row → A) → on (Some r) f ≡ f r) (m n : Option Row) (f : Row → A) → MaybeAlike m n
       → ((r s : Row) → Alike r s → f r ≡ f s) → on m f ≡ on n f
-  on_alike on e none none f h k = refl
-  on_alike on e none (some s) f h k = absurd h
-  on_alike on e (some r) none f h k = absurd h
-  on_alike on e (some r) (some s) f h k = e r f ∙ k r s h ∙ sym (e s f)
+  on_alike on e None None f h k = refl
+  on_alike on e None (Some s) f h k = absurd h
+  on_alike on e (Some r) None f h k = absurd h
+  on_alike on e (Some r) (Some s) f h k = e r f ∙ k r s h ∙ sym (e s f)
 
-  branch-alike : {A : Type 0} (on : Maybe → (Row → A) → A) (e : (r : Row) (f : Row → A) → on (some r) f ≡ f r) (w : Bool) (f : Row → A) {d d' : Decision} (m n : Maybe)
+  branch-alike : {A : Type 0} (on : Option Row → (Row → A) → A) (e : (r : Row) (f : Row → A) → on (Some r) f ≡ f r) (w : Bool) (f : Row → A) {d d' : Decision} (m n : Option Row)
       → d ≡ d' → MaybeAlike m n → ((r s : Row) → Alike r s → f r ≡ f s) → on (branch_of d w m) f ≡ on (branch_of d' w n) f
   branch-alike on e w f {d' = d'} m n i h k = rw i (on_alike on e _ _ f (row_if-alike (allows d' w) m n h) k)
 
-  range-on : (r : Row) (f : Row → Interval) → range_on (some r) f ≡ f r
+  range-on : (r : Row) (f : Row → Option Interval) → range_on (Some r) f ≡ f r
   unfolding range_on
   range-on r f = refl
 
-  alarms-on : (r : Row) (f : Row → List Alarm) → alarms_on (some r) f ≡ f r
+  alarms-on : (r : Row) (f : Row → List Alarm) → alarms_on (Some r) f ≡ f r
   unfolding alarms_on
   alarms-on r f = refl
 
@@ -267,18 +247,18 @@ module _ (P : ℕ → Type 0) (R S : Row) (agree : (v : ℕ) → P v → range_o
   abbrev Reads : (ℕ → Bool) → Type 0
   Reads read = (v : ℕ) → read v ≡ true → P v
 
-  carry-alike : (x : Arith) (i : Interval) (r s : Row) → Reads (reads x) → Alike r s → MaybeAlike (carry_of x i r) (carry_of x i s)
+  carry-alike : (x : Arith) (i : Option Interval) (r s : Row) → Reads (reads x) → Alike r s → MaybeAlike (carry_of x i r) (carry_of x i s)
   unfolding carry_of reads
   carry-alike x None r s p h = tt
-  carry-alike (constant n z) (Between a b) r s p h = h
-  carry-alike (input n l u) (Between a b) r s p h = h
-  carry-alike (variable n v) (Between a b) r s p h = meet_at-alike r s v (Between a b) (p v (eq-eqb v v refl)) h
-  carry-alike (negation n x) (Between a b) r s p h = h
-  carry-alike (binary n op x y) (Between a b) r s p h = h
-  carry-alike (choice n c x y) (Between a b) r s p h = h
-  carry-alike (no_arith n) (Between a b) r s p h = h
+  carry-alike (constant n z) (Some e) r s p h = h
+  carry-alike (input n l u) (Some e) r s p h = h
+  carry-alike (variable n v) (Some e) r s p h = meet_at-alike r s v (span e.low e.high) (p v (eq-eqb v v refl)) h
+  carry-alike (negation n x) (Some e) r s p h = h
+  carry-alike (binary n op x y) (Some e) r s p h = h
+  carry-alike (choice n c x y) (Some e) r s p h = h
+  carry-alike (no_arith n) (Some e) r s p h = h
 
-  compare_alike : (x y : Arith) (k : Comparison) (w : Bool) {i i' j j' : Interval} (r s : Row) → i ≡ i' → j ≡ j' → Reads (reads x) → Reads (reads y) → Alike r s
+  compare_alike : (x y : Arith) (k : Comparison) (w : Bool) {i i' j j' : Option Interval} (r s : Row) → i ≡ i' → j ≡ j' → Reads (reads x) → Reads (reads y) → Alike r s
       → MaybeAlike (carry_both_of x y (cuts_of k w i j) r) (carry_both_of x y (cuts_of k w i' j') s)
   unfolding carry_both_of
   compare_alike x y k w {i' = i'} {j' = j'} r s e f p q h =
@@ -298,25 +278,25 @@ module _ (P : ℕ → Type 0) (R S : Row) (agree : (v : ℕ) → P v → range_o
     value-alike (constant n z) r s p h = refl
     value-alike (input n a b) r s p h = refl
     value-alike (variable n v) r s p h = range-alike h v (p v (eq-eqb v v refl))
-    value-alike (negation n x) r s p h = ap (λ (i : Interval). (negate_of i).range) (value-alike x r s p h)
+    value-alike (negation n x) r s p h = ap (λ (i : Option Interval). (negate_of i).range) (value-alike x r s p h)
     value-alike (binary n op x y) r s p h =
-        same2 (λ i j. (operate_of op i j).range) (value-alike x r s (left-read (reads x) (reads y) p) h) (value-alike y r s (right-read (reads x) (reads y) p) h)
+        ap₂ (λ i j. (operate_of op i j).range) (value-alike x r s (left-read (reads x) (reads y) p) h) (value-alike y r s (right-read (reads x) (reads y) p) h)
     value-alike (choice n c x y) r s p h =
         let in-cond = left-read (cond_reads c) (λ v. reads x v || reads y v) p in
         let in_both = right-read (cond_reads c) (λ v. reads x v || reads y v) p in
         let d = decision-alike c r s in-cond h in
-        same2 join_of
+        ap₂ join_of
         (branch-alike range_on range-on true (λ t. value_of x t) _ _ d (narrow-alike c true r s in-cond h) (λ t u k. value-alike x t u (left-read (reads x) (reads y) in_both) k))
         (branch-alike range_on range-on false (λ t. value_of y t) _ _ d (narrow-alike c false r s in-cond h) (λ t u k. value-alike y t u (right-read (reads x) (reads y) in_both) k))
     value-alike (no_arith n) r s p h = refl
 
     decision-alike : (c : Cond) (r s : Row) → Reads (cond_reads c) → Alike r s → decision_of c r ≡ decision_of c s
     decision-alike (compare n k x y) r s p h =
-        same2 (compare_of k) (value-alike x r s (left-read (reads x) (reads y) p) h) (value-alike y r s (right-read (reads x) (reads y) p) h)
+        ap₂ (compare_of k) (value-alike x r s (left-read (reads x) (reads y) p) h) (value-alike y r s (right-read (reads x) (reads y) p) h)
     decision-alike (both n c d) r s p h =
-        same2 both_of (decision-alike c r s (left-read (cond_reads c) (cond_reads d) p) h) (decision-alike d r s (right-read (cond_reads c) (cond_reads d) p) h)
+        ap₂ both_of (decision-alike c r s (left-read (cond_reads c) (cond_reads d) p) h) (decision-alike d r s (right-read (cond_reads c) (cond_reads d) p) h)
     decision-alike (either n c d) r s p h =
-        same2 either_of (decision-alike c r s (left-read (cond_reads c) (cond_reads d) p) h) (decision-alike d r s (right-read (cond_reads c) (cond_reads d) p) h)
+        ap₂ either_of (decision-alike c r s (left-read (cond_reads c) (cond_reads d) p) h) (decision-alike d r s (right-read (cond_reads c) (cond_reads d) p) h)
     decision-alike (is_not n c) r s p h = ap opposite_of (decision-alike c r s p h)
     decision-alike (no_cond n) r s p h = refl
 
@@ -345,29 +325,29 @@ module _ (P : ℕ → Type 0) (R S : Row) (agree : (v : ℕ) → P v → range_o
     alarms-alike (constant n z) r s p h = refl
     alarms-alike (input n a b) r s p h = refl
     alarms-alike (variable n v) r s p h = refl
-    alarms-alike (negation n x) r s p h = same2 (λ a i. a ++ told_of n (negate_of i)) (alarms-alike x r s p h) (value-alike x r s p h)
+    alarms-alike (negation n x) r s p h = ap₂ (λ a i. a ++ told_of n (negate_of i)) (alarms-alike x r s p h) (value-alike x r s p h)
     alarms-alike (binary n op x y) r s p h =
         let in_left = left-read (reads x) (reads y) p in
         let in_right = right-read (reads x) (reads y) p in
-        same2 ◌++◌ (alarms-alike x r s in_left h)
-        (same2 ◌++◌ (alarms-alike y r s in_right h) (same2 (λ i j. told_of n (operate_of op i j)) (value-alike x r s in_left h) (value-alike y r s in_right h)))
+        ap₂ ◌++◌ (alarms-alike x r s in_left h)
+        (ap₂ ◌++◌ (alarms-alike y r s in_right h) (ap₂ (λ i j. told_of n (operate_of op i j)) (value-alike x r s in_left h) (value-alike y r s in_right h)))
     alarms-alike (choice n c x y) r s p h =
         let in-cond = left-read (cond_reads c) (λ v. reads x v || reads y v) p in
         let in_both = right-read (cond_reads c) (λ v. reads x v || reads y v) p in
         let d = decision-alike c r s in-cond h in
-        same2 ◌++◌ (cond_alarms-alike c r s in-cond h)
-        (same2 ◌++◌
+        ap₂ ◌++◌ (cond_alarms-alike c r s in-cond h)
+        (ap₂ ◌++◌
         (branch-alike alarms_on alarms-on true (λ t. alarms_of x t) _ _ d (narrow-alike c true r s in-cond h) (λ t u k. alarms-alike x t u (left-read (reads x) (reads y) in_both) k))
         (branch-alike alarms_on alarms-on false (λ t. alarms_of y t) _ _ d (narrow-alike c false r s in-cond h) (λ t u k. alarms-alike y t u (right-read (reads x) (reads y) in_both) k)))
     alarms-alike (no_arith n) r s p h = refl
 
     cond_alarms-alike : (c : Cond) (r s : Row) → Reads (cond_reads c) → Alike r s → cond_alarms_of c r ≡ cond_alarms_of c s
     cond_alarms-alike (compare n k x y) r s p h =
-        same2 ◌++◌ (alarms-alike x r s (left-read (reads x) (reads y) p) h) (alarms-alike y r s (right-read (reads x) (reads y) p) h)
+        ap₂ ◌++◌ (alarms-alike x r s (left-read (reads x) (reads y) p) h) (alarms-alike y r s (right-read (reads x) (reads y) p) h)
     cond_alarms-alike (both n c d) r s p h =
-        same2 ◌++◌ (cond_alarms-alike c r s (left-read (cond_reads c) (cond_reads d) p) h) (cond_alarms-alike d r s (right-read (cond_reads c) (cond_reads d) p) h)
+        ap₂ ◌++◌ (cond_alarms-alike c r s (left-read (cond_reads c) (cond_reads d) p) h) (cond_alarms-alike d r s (right-read (cond_reads c) (cond_reads d) p) h)
     cond_alarms-alike (either n c d) r s p h =
-        same2 ◌++◌ (cond_alarms-alike c r s (left-read (cond_reads c) (cond_reads d) p) h) (cond_alarms-alike d r s (right-read (cond_reads c) (cond_reads d) p) h)
+        ap₂ ◌++◌ (cond_alarms-alike c r s (left-read (cond_reads c) (cond_reads d) p) h) (cond_alarms-alike d r s (right-read (cond_reads c) (cond_reads d) p) h)
     cond_alarms-alike (is_not n c) r s p h = cond_alarms-alike c r s p h
     cond_alarms-alike (no_cond n) r s p h = refl
 

@@ -1,30 +1,30 @@
 -- Lists of alarms: what a list made of two lists, or of an operation's flags, lists; that all alarms are of kind 1 or 2; and that the marks of a
 -- list of such alarms are that set of pairs.
 -- Assumes nothing.
-use Prim.Native.Nat.{ℕ, zero, suc, ◌<◌, ◌≤◌}
+use Prim.Native.Nat.{ℕ, zero, suc, ◌<◌}
 use mathlib.Core.Path.{◌≡◌, refl, sym, ap, ◌∙◌}
-use mathlib.Core.Bool.{Bool, true, false, ◌&&◌, ◌||◌, or-true, or-false, or_assoc}
+use mathlib.Core.Bool.{Bool, true, false, ◌&&◌, ◌||◌, or-false, or_assoc}
 use mathlib.Core.List.{List, [], ◌∷◌, ◌++◌}
 use mathlib.Core.Logic.{inl, inr}
 use native.Mathlib.Omega.{arith}
-use borrow.Author.Tests.{eqb-true, eq-eqb}
 use lib.Dec.{eqb}
 use lib.ListN.{length, set, get_or, replicate, length-set, length-replicate, get_or-replicate}
-use lib.Seq.{get_or-set_same, get_or-set_other}
 use Rattle.interval.specs.declared.Computed.{Computed}
-use Rattle.words.proofs.Bools.{clash, and-true, and_left, and_right, or_left, or_right, or_cases}
+use Rattle.std.proofs.lemmas.Grind.{common_steps}
+use Rattle.words.proofs.Bools.{clash, or_left, or_right, or_cases}
 use Rattle.analysis.specs.declared.Alarm.{Alarm}
-use Rattle.analysis.specs.Rows.{Row, Maybe, none, some}
+use Rattle.analysis.specs.Rows.{Row}
 use Rattle.analysis.specs.Alarms.{alarm_of, alarm_if, told_of, lists, place_of, marked_of}
 use Rattle.analysis.specs.Analysis.{alarms_on}
 use Rattle.analysis.specs.Laws.{IsKind, Kinds}
+use Rattle.std.specs.Prelude.{None, Option, Some}
 
 abbrev pub Listed : ℕ → ℕ → List Alarm → Type 0
 Listed n k l = lists n k l ≡ true
 
 head-listed : (a : Alarm) (l : List Alarm) → Listed a.node a.kind (a ∷ l)
 unfolding lists
-head-listed a l = or_left (lists a.node a.kind l) (and-true (eq-eqb a.node a.node refl) (eq-eqb a.kind a.kind refl))
+head-listed a l = grind (arith, common_steps)
 
 -- ---- two lists together
 pub lists-append : (n k : ℕ) (l m : List Alarm) → lists n k (l ++ m) ≡ lists n k l || lists n k m
@@ -58,16 +58,14 @@ empty-kinds = record { kind = λ n k e. clash (sym e) }
 
 cons-kinds : (a : Alarm) (l : List Alarm) → IsKind a.kind → Kinds l → Kinds (a ∷ l)
 unfolding lists
-cons-kinds a l h s = record {
-  kind = λ n k e. or_cases (eqb a.node n && eqb a.kind k) (lists n k l) e (λ i. rw (eqb-true a.kind k (and_right (eqb a.node n) (eqb a.kind k) i)) at h) (s.kind n k);
-}
+cons-kinds a l h s = grind (arith, common_steps)
 
 head-kind : (a : Alarm) (l : List Alarm) → Kinds (a ∷ l) → IsKind a.kind
 head-kind a l s = s.kind a.node a.kind (head-listed a l)
 
 tail-kinds : (a : Alarm) (l : List Alarm) → Kinds (a ∷ l) → Kinds l
 unfolding lists
-tail-kinds a l s = record { kind = λ n k e. s.kind n k (or_right (eqb a.node n && eqb a.kind k) e) }
+tail-kinds a l s = grind (arith, common_steps)
 
 pub append-kinds : (l m : List Alarm) → Kinds l → Kinds m → Kinds (l ++ m)
 append-kinds l m h s = record { kind = λ n k e. or_cases (lists n k l) (lists n k m) (sym (lists-append n k l m) ∙ e) (h.kind n k) (s.kind n k) }
@@ -81,10 +79,10 @@ pub told-kinds : (n : ℕ) (o : Computed) → Kinds (told_of n o)
 unfolding told_of
 told-kinds n o = append-kinds _ _ (alarm_if-kinds o.overflow n 1 (inl refl)) (alarm_if-kinds o.zero n 2 (inr refl))
 
-pub alarms_on-kinds : (s : Maybe) (f : Row → List Alarm) → ((r : Row) → Kinds (f r)) → Kinds (alarms_on s f)
+pub alarms_on-kinds : (s : Option Row) (f : Row → List Alarm) → ((r : Row) → Kinds (f r)) → Kinds (alarms_on s f)
 unfolding alarms_on
-alarms_on-kinds none f h = empty-kinds
-alarms_on-kinds (some r) f h = h r
+alarms_on-kinds None f h = empty-kinds
+alarms_on-kinds (Some r) f h = h r
 
 -- ---- marks
 pub marked_append : (marks : List ℕ) (l m : List Alarm) → marked_of marks (l ++ m) ≡ marked_of (marked_of marks l) m
@@ -119,34 +117,13 @@ marked-swap marks l m n =
     let both : (m n : List Alarm) → marked_of marks (l ++ (m ++ n)) ≡ marked_of (marked_of (marked_of marks l) m) n = λ m n. marked_append marks l (m ++ n) ∙ marked_append _ m n in
     both m n ∙ marked-comm (marked_of marks l) m n ∙ sym (both n m)
 
-kind-bounds : (k : ℕ) → IsKind k → (1 ≤ k) × (k ≤ 2)
-kind-bounds k (inl e) = (omega arith, omega arith)
-kind-bounds k (inr e) = (omega arith, omega arith)
-
--- of kinds 1 and 2 no two pairs have one place
-place-only : (n k m j : ℕ) → IsKind k → IsKind j → place_of n k ≡ place_of m j → (n ≡ m) × (k ≡ j)
-place-only n k m j h i e =
-    let p = kind-bounds k h in
-    let q = kind-bounds j i in
-    (omega arith, omega arith)
-
 module _ (n k : ℕ) (h : IsKind k) where
   abbrev marked : List ℕ → Bool
   marked marks = eqb (get_or marks (place_of n k) 0) 1
 
-  -- one mark more
+  -- one mark more: of kinds 1 and 2 no two pairs have one place
   mark-is : (marks : List ℕ) (a : Alarm) → IsKind a.kind → place_of n k < length marks → marked (set marks (place_of a.node a.kind) 1) ≡ marked marks || (eqb a.node n && eqb a.kind k)
-  mark-is marks a i room = by (eqb a.node n && eqb a.kind k) refl
-    where
-      by : (t : Bool) → eqb a.node n && eqb a.kind k ≡ t → marked (set marks (place_of a.node a.kind) 1) ≡ marked marks || t
-      by true e =
-          let p : a.node ≡ n = eqb-true a.node n (and_left _ _ e) in
-          let q : a.kind ≡ k = eqb-true a.kind k (and_right (eqb a.node n) _ e) in
-          rw (p, q, get_or-set_same marks (place_of n k) 1 0 room) (sym (or-true (marked marks)))
-      by false e =
-          let other : place_of n k ≡ place_of a.node a.kind → ⊥ =
-          λ q. let s = place-only a.node a.kind n k i h (sym q) in clash (sym (and-true (eq-eqb _ _ s.0) (eq-eqb _ _ s.1)) ∙ e) in
-          rw (get_or-set_other marks (place_of a.node a.kind) (place_of n k) 1 0 other) (sym (or-false (marked marks)))
+  mark-is marks a i room = grind (arith, common_steps)
 
   marked-is : (l : List Alarm) (marks : List ℕ) → Kinds l → place_of n k < length marks → marked (marked_of marks l) ≡ marked marks || lists n k l
   unfolding marked_of lists

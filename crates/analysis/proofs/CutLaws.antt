@@ -8,22 +8,23 @@ use native.Mathlib.Omega.{arith}
 use borrow.Author.Tests.{ltb-true, ltb-false, eqb-true, eqb-false, ne_eqb}
 use lib.Dec.{ltb, eqb}
 use lib.IntN.{ℤ, pos}
-use lib.ListN.{length, set, length-set, get_or-eq_default}
-use lib.Seq.{set_out, get_or-set_same, get_or-set_other}
+use lib.ListN.{length, set}
+use lib.Seq.{get_or-set_same}
 use lib.Signed.{le_z}
-use Rattle.interval.specs.Interval.{on_ends, from_to}
+use Rattle.interval.specs.Interval.{on_ends, from_to, span}
 use Rattle.interval.specs.Lattice.{meet_of}
 use Rattle.interval.specs.Narrow.{cuts_of}
 use Rattle.interval.specs.declared.Comparison.{Comparison}
 use Rattle.interval.specs.declared.Cuts.{Cuts}
 use Rattle.interval.specs.declared.Interval.{Interval}
-use Rattle.interval.specs.declared.Interval.TheVariants.{None, Between}
 use Rattle.interval.proofs.LatticeLaws.{meet-none}
 use Rattle.interval.proofs.NarrowLaws.{cuts-met}
+use Rattle.std.proofs.lemmas.Grind.{common_steps}
 use Rattle.table.specs.Tree.{Arith, constant, input, variable, negation, binary, choice, no_arith, compare}
-use Rattle.analysis.specs.Rows.{Row, row_of, range_of, Maybe, none, some, then_row, put_of, meet_at_of}
+use Rattle.analysis.specs.Rows.{Row, row_of, range_of, then_row, put_of, meet_at_of}
 use Rattle.analysis.specs.Analysis.{carry_of, carry_both_of, value_of, narrow_of}
 use Rattle.analysis.specs.Cuts.{variable_or, met_if, cut_row_of}
+use Rattle.std.specs.Prelude.{None, Option, Some}
 
 -- ---- rows of at most sixteen slots
 record Short (r : Row) : Type 0 where
@@ -35,20 +36,17 @@ put_in r p a b = row_of (set r.lows p a) (set r.highs p b)
 
 module _ (r : Row) (h : Short r) where
   put-short : (p : ℕ) (a b : ℤ) → Short (put_in r p a b)
-  put-short p a b = record { low = rw (length-set r.lows p a) h.low; high = rw (length-set r.highs p b) h.high }
+  put-short p a b = grind (arith, common_steps)
 
   -- past the slots nothing is put in, and every interval is 0..0
-  put-past : (p : ℕ) (a b : ℤ) → 16 ≤ p → put_of r p (Between a b) ≡ some r
+  put-past : (p : ℕ) (a b : ℤ) → 16 ≤ p → put_of r p (span a b) ≡ Some r
   unfolding put_of
-  put-past p a b k = rw (set_out r.lows p a (omega (arith, h.low)), set_out r.highs p b (omega (arith, h.high))) refl
+  put-past p a b k = grind (arith, common_steps)
 
-  range-past : (v : ℕ) → 16 ≤ v → range_of r v ≡ Between (pos 0) (pos 0)
-  range-past v k = rw (
-    get_or-eq_default r.lows (pos 0) {n = v} (omega (arith, h.low)),
-    get_or-eq_default r.highs (pos 0) {n = v} (omega (arith, h.high)),
-  )
+  range-past : (v : ℕ) → 16 ≤ v → range_of r v ≡ span (pos 0) (pos 0)
+  range-past v k = grind (arith, common_steps)
 
-  meet-past : (v : ℕ) (a b : ℤ) → 16 ≤ v → meet_of (range_of r v) (Between a b) ≡ Between a b → meet_at_of r v (Between a b) ≡ some r
+  meet-past : (v : ℕ) (a b : ℤ) → 16 ≤ v → meet_of (range_of r v) (span a b) ≡ span a b → meet_at_of r v (span a b) ≡ Some r
   unfolding meet_at_of
   meet-past v a b k m = rw m (put-past v a b k)
 
@@ -77,21 +75,21 @@ slots-differ x y =
     slot-or (λ w. variable_or 16 x ≡ w → variable_or 16 x < 16) 17 (λ e. omega arith) (λ w l e. omega arith) y
 
 -- ---- carrying the cut a..b back is f of the side's slot, and of past where it has none: the row as it was
-module _ (s : Row) (a b : ℤ) (f : ℕ → Maybe) (past : ℕ) (out : f past ≡ some s) where
+module _ (s : Row) (a b : ℤ) (f : ℕ → Option Row) (past : ℕ) (out : f past ≡ Some s) where
   slot_is :
-      (v : ℕ) → (v < 16 → meet_at_of s v (Between a b) ≡ f v) → (16 ≤ v → meet_at_of s v (Between a b) ≡ some s)
-      → meet_at_of s v (Between a b) ≡ f (cond (ltb v 16) v past)
+      (v : ℕ) → (v < 16 → meet_at_of s v (span a b) ≡ f v) → (16 ≤ v → meet_at_of s v (span a b) ≡ Some s)
+      → meet_at_of s v (span a b) ≡ f (cond (ltb v 16) v past)
   slot_is v g h = by (ltb v 16) refl
     where
-      by : (t : Bool) → ltb v 16 ≡ t → meet_at_of s v (Between a b) ≡ f (cond t v past)
+      by : (t : Bool) → ltb v 16 ≡ t → meet_at_of s v (span a b) ≡ f (cond t v past)
       by true e = g (ltb-true v 16 e)
       by false e = h (ltb-false v 16 e) ∙ sym out
 
   carry-is :
       (x : Arith)
-      → ((n v : ℕ) → x ≡ variable n v → v < 16 → meet_at_of s v (Between a b) ≡ f v)
-      → ((n v : ℕ) → x ≡ variable n v → 16 ≤ v → meet_at_of s v (Between a b) ≡ some s)
-      → carry_of x (Between a b) s ≡ f (variable_or past x)
+      → ((n v : ℕ) → x ≡ variable n v → v < 16 → meet_at_of s v (span a b) ≡ f v)
+      → ((n v : ℕ) → x ≡ variable n v → 16 ≤ v → meet_at_of s v (span a b) ≡ Some s)
+      → carry_of x (span a b) s ≡ f (variable_or past x)
   unfolding carry_of variable_or
   carry-is (constant n z) g h = sym out
   carry-is (input n c d) g h = sym out
@@ -104,31 +102,31 @@ module _ (s : Row) (a b : ℤ) (f : ℕ → Maybe) (past : ℕ) (out : f past �
 -- ---- the first side
 first-is :
     (r : Row) → Short r → (x : Arith) (a b : ℤ)
-    → meet_of (value_of x r) (Between a b) ≡ Between a b
-    → carry_of x (Between a b) r ≡ put_of r (variable_or 16 x) (Between a b)
+    → meet_of (value_of x r) (span a b) ≡ span a b
+    → carry_of x (span a b) r ≡ put_of r (variable_or 16 x) (span a b)
 unfolding value_of meet_at_of
-first-is r h x a b m = carry-is r a b (λ v. put_of r v (Between a b)) 16 (put-past r h 16 a b (omega arith)) x
+first-is r h x a b m = carry-is r a b (λ v. put_of r v (span a b)) 16 (put-past r h 16 a b (omega arith)) x
     (λ n v e k. rw (rw e at m))
     (λ n v e k. meet-past r h v a b k (rw e at m))
 
 -- ---- the second, after the cut a..b was put at p
-abbrev second_of : Row → ℕ → Interval → ℕ → Maybe
+abbrev second_of : Row → ℕ → Option Interval → ℕ → Option Row
 second_of s p t w = cond (eqb p w) (meet_at_of s w t) (put_of s w t)
 
-second_none : (s : Row) (p w : ℕ) → none ≡ second_of s p None w
+second_none : (s : Row) (p w : ℕ) → None ≡ second_of s p None w
 unfolding meet_at_of put_of
 second_none s p w = rw (meet-none (range_of s w)) (by (eqb p w))
   where
-    by : (q : Bool) → none ≡ cond q none none
+    by : (q : Bool) → ◌≡◌ {A = Option Row} None (cond q None None)
     by true = refl
     by false = refl
 
 module _ (r : Row) (h : Short r) (p : ℕ) (k : p ≤ 16) (a b : ℤ) where
   -- the others are as they were
   range_other : (v : ℕ) → (v ≡ p → ⊥) → range_of (put_in r p a b) v ≡ range_of r v
-  range_other v n = rw (get_or-set_other r.lows p v a (pos 0) n, get_or-set_other r.highs p v b (pos 0) n)
+  range_other v n = grind (arith, common_steps)
 
-  slot-second : (v : ℕ) (t : Interval) → meet_of (range_of r v) t ≡ t → meet_at_of (put_in r p a b) v t ≡ second_of (put_in r p a b) p t v
+  slot-second : (v : ℕ) (t : Option Interval) → meet_of (range_of r v) t ≡ t → meet_at_of (put_in r p a b) v t ≡ second_of (put_in r p a b) p t v
   unfolding meet_at_of
   slot-second v t m = by (eqb p v) refl
     where
@@ -136,25 +134,25 @@ module _ (r : Row) (h : Short r) (p : ℕ) (k : p ≤ 16) (a b : ℤ) where
       by true e = refl
       by false e = rw (range_other v (λ i. eqb-false p v e (sym i)), m)
 
-  second_is : (y : Arith) (t : Interval) → meet_of (value_of y r) t ≡ t → carry_of y t (put_in r p a b) ≡ second_of (put_in r p a b) p t (variable_or 17 y)
+  second_is : (y : Arith) (t : Option Interval) → meet_of (value_of y r) t ≡ t → carry_of y t (put_in r p a b) ≡ second_of (put_in r p a b) p t (variable_or 17 y)
   unfolding value_of carry_of
   second_is y None m = second_none (put_in r p a b) p (variable_or 17 y)
-  second_is y (Between c d) m =
+  second_is y (Some j) m =
       let s = put_in r p a b in
       let i = put-short r h p a b in
-      carry-is s c d (second_of s p (Between c d)) 17
-      (rw (ne_eqb p 17 (λ e. omega arith)) (put-past s i 17 c d (omega arith)))
+      carry-is s j.low j.high (second_of s p (span j.low j.high)) 17
+      (rw (ne_eqb p 17 (λ e. omega arith)) (put-past s i 17 j.low j.high (omega arith)))
       y
-      (λ n v e l. slot-second v (Between c d) (rw e at m))
-      (λ n v e l. meet-past s i v c d l (rw (range-past s i v l ∙ sym (range-past r h v l)) (rw e at m)))
+      (λ n v e l. slot-second v (span j.low j.high) (rw e at m))
+      (λ n v e l. meet-past s i v j.low j.high l (rw (range-past s i v l ∙ sym (range-past r h v l)) (rw e at m)))
 
 -- ---- both
 both_is :
-    (r : Row) → Short r → (x y : Arith) (l t : Interval) → meet_of (value_of x r) l ≡ l → meet_of (value_of y r) t ≡ t
+    (r : Row) → Short r → (x y : Arith) (l t : Option Interval) → meet_of (value_of x r) l ≡ l → meet_of (value_of y r) t ≡ t
     → then_row (carry_of x l r) (λ s. carry_of y t s) ≡ then_row (put_of r (variable_or 16 x) l) (λ s. second_of s (variable_or 16 x) t (variable_or 17 y))
 unfolding carry_of put_of then_row
 both_is r h x y None t m n = refl
-both_is r h x y (Between a b) t m n = rw (first-is r h x a b m) (second_is r h (variable_or 16 x) (below x) a b y t n)
+both_is r h x y (Some e) t m n = rw (first-is r h x e.low e.high m) (second_is r h (variable_or 16 x) (below x) e.low e.high y t n)
 
 pub narrow_cuts :
     (n : ℕ) (k : Comparison) (x y : Arith) (w : Bool) (r : Row)
@@ -168,11 +166,11 @@ narrow_cuts n k x y w r i j =
 
 -- ---- what is written, where the first cut is known
 -- a meet takes lo..hi as none where lo is above hi
-meet-taken : (lo hi : ℤ) (t : Interval) → meet_of (from_to lo hi) t ≡ meet_of (Between lo hi) t
+meet-taken : (lo hi : ℤ) (t : Option Interval) → meet_of (from_to lo hi) t ≡ meet_of (span lo hi) t
 unfolding meet_of on_ends
 meet-taken lo hi t = by (le_z lo hi) refl
   where
-    by : (q : Bool) → le_z lo hi ≡ q → meet_of (cond q (Between lo hi) None) t ≡ meet_of (Between lo hi) t
+    by : (q : Bool) → le_z lo hi ≡ q → meet_of (cond q (span lo hi) None) t ≡ meet_of (span lo hi) t
     by true e = refl
     by false e = rw e
 
@@ -182,7 +180,7 @@ pub cut-written :
     → length r.highs ≡ 16
     → (v x : ℕ) (u : Cuts) (lo hi : ℤ)
     → (v ≡ x → v < 16)
-    → u.left ≡ Between lo hi
+    → u.left ≡ span lo hi
     → cut_row_of r v x u ≡ put_of (row_of (set r.lows v lo) (set r.highs v hi)) x (met_if (eqb v x) u.left u.right)
 unfolding cut_row_of then_row put_of meet_at_of met_if
 cut-written r i j v x u lo hi h e = rw e (by (eqb v x) refl)
@@ -190,7 +188,7 @@ cut-written r i j v x u lo hi h e = rw e (by (eqb v x) refl)
     by :
         (q : Bool) → eqb v x ≡ q
         → cond q (meet_at_of (put_in r v lo hi) x u.right) (put_of (put_in r v lo hi) x u.right)
-        ≡ put_of (put_in r v lo hi) x (cond q (meet_of (Between lo hi) u.right) u.right)
+        ≡ put_of (put_in r v lo hi) x (cond q (meet_of (span lo hi) u.right) u.right)
     by true f =
         let g = eqb-true v x f in
         let k = h g in
@@ -202,6 +200,6 @@ cut-written r i j v x u lo hi h e = rw e (by (eqb v x) refl)
         )
     by false f = refl
 
-pub cut-first-none : (r : Row) (v x : ℕ) (u : Cuts) → u.left ≡ None → cut_row_of r v x u ≡ none
+pub cut-first-none : (r : Row) (v x : ℕ) (u : Cuts) → u.left ≡ None → cut_row_of r v x u ≡ None
 unfolding cut_row_of then_row put_of
 cut-first-none r v x u e = rw e

@@ -6,6 +6,7 @@ pub mod NodeLaws
 pub mod AnalysisLaws
 pub mod Laws
 pub mod RowCodeLaws
+pub mod NodeTreeLaws
 pub mod WalkLaws
 pub mod NarrowCodeLaws
 pub mod AgreeLaws

@@ -8,12 +8,10 @@ use mathlib.Core.Bool.{Bool, true, false, not, ◌&&◌, ◌||◌}
 use mathlib.Core.List.{List}
 use lib.IntN.{ℤ, pos, neg_ℤ}
 use lib.Signed.{le_z, ≤ℤ_refl}
-use Rattle.interval.specs.Integer.{max_z}
-use Rattle.interval.specs.Interval.{Within, Holds}
+use Rattle.interval.specs.Interval.{Within, Holds, span}
 use Rattle.interval.specs.Arithmetic.{exact, by_zero, negate_of, operate_of}
 use Rattle.interval.specs.Compare.{test, allows}
 use Rattle.interval.specs.declared.Interval.{Interval}
-use Rattle.interval.specs.declared.Interval.TheVariants.{None, Between}
 use Rattle.interval.specs.declared.Operation.{Operation}
 use Rattle.interval.specs.declared.Comparison.{Comparison}
 use Rattle.interval.proofs.IntegerLaws.{max-left, max-right}
@@ -23,17 +21,17 @@ use Rattle.interval.proofs.ArithmeticLaws.{negate-tells, operate-tells, operate-
 use Rattle.interval.proofs.CompareLaws.{compare-allows, both-allows, either-allows, opposite-allows}
 use Rattle.interval.proofs.NarrowLaws.{cuts-keep}
 use Rattle.words.specs.Words.{word_of}
-use Rattle.table.specs.declared.Evaluation.{Evaluation}
-use Rattle.table.specs.declared.Verity.{Verity}
 use Rattle.table.specs.Tree.{Arith, constant, input, variable, negation, binary, choice, no_arith, Cond, compare, both, either, is_not, no_cond}
-use Rattle.table.specs.Meaning.{fit, perform_by, perform, word_in, input_by, branch}
+use Rattle.table.specs.Meaning.{fit, perform_by, perform, word_in, input_by, branch, Evaluation}
 use Rattle.analysis.specs.declared.Alarm.{Alarm}
-use Rattle.analysis.specs.Rows.{Row, Maybe, Inside, Kept}
+use Rattle.analysis.specs.Rows.{Row, Inside, Kept}
 use Rattle.analysis.specs.Alarms.{told_of}
 use Rattle.analysis.specs.Analysis.{branch_of, range_on, alarms_on, carry_of, carry_both_of, value_of, alarms_of, decision_of, cond_alarms_of, narrow_of}
 use Rattle.analysis.proofs.RowLaws.{kept-some, meet_at-keeps, then_keeps, join_rows-keeps-left, join_rows-keeps-right, branch_keeps}
 use Rattle.analysis.proofs.AlarmLaws.{Listed, listed-left, listed-right, overflow-listed, zero-listed}
-use Rattle.analysis.proofs.OutcomeLaws.{ValueOutcome, TruthOutcome, outcome-mono, fit-outcome}
+use Rattle.analysis.proofs.OutcomeLaws.{EndsWith, ends-mono, fit-ends}
+use Rattle.std.specs.Int.{int_max}
+use Rattle.std.specs.Prelude.{None, Option, Some}
 
 module _ (vs : List ℤ) where
   -- ---- what is said of the value z of x, of the truth b of c, and of an error
@@ -61,11 +59,11 @@ module _ (vs : List ℤ) where
   abbrev pub CondTold : Cond → ℕ → ℕ → Type 0
   CondTold c n k = (r : Row) → Inside vs r → Listed n k (cond_alarms_of c r)
 
-  abbrev pub Outcome : Arith → Evaluation → Type 0
-  Outcome x e = ValueOutcome (Valued x) (Told x) e
+  abbrev pub Outcome : Arith → Evaluation ℤ → Type 0
+  Outcome x e = EndsWith (Valued x) (Told x) e
 
-  abbrev pub CondOutcome : Cond → Verity → Type 0
-  CondOutcome c e = TruthOutcome (Decided c) (CondTold c) e
+  abbrev pub CondOutcome : Cond → Evaluation Bool → Type 0
+  CondOutcome c e = EndsWith (Decided c) (CondTold c) e
 
   -- ---- leaves
   pub constant-valued : (n : ℕ) (z : ℤ) → Valued (constant n z) z
@@ -81,7 +79,7 @@ module _ (vs : List ℤ) where
   no_arith-valued n = record { contains = λ r i. first (≤ℤ_refl (pos 0)); reads = tt }
 
   -- a word that isn't in the input's interval counts as its low end
-  word_in-within : (a b w : ℤ) (t : Bool) → le_z a w && le_z w b ≡ t → Within a (max_z a b) (word_in t a w)
+  word_in-within : (a b w : ℤ) (t : Bool) → le_z a w && le_z w b ≡ t → Within a (int_max a b) (word_in t a w)
   unfolding word_in
   word_in-within a b w true e = widen (≤ℤ_refl a) (max-right a b) (test-within a b w e)
   word_in-within a b w false e = first (max-left a b)
@@ -95,7 +93,7 @@ module _ (vs : List ℤ) where
   pub negation-outcome : (n : ℕ) (x : Arith) (a : ℤ) (p : ℕ) → Valued x a → Outcome (negation n x) (fit n (neg_ℤ a) p)
   unfolding value_of
   negation-outcome n x a p h =
-      fit-outcome (Valued (negation n x)) (Told (negation n x)) n (neg_ℤ a) p
+      fit-ends (Valued (negation n x)) (Told (negation n x)) n (neg_ℤ a) p
       (λ w. record { contains = λ r i. (negate-tells (value_of x r) a (h.contains r i)).contains w; reads = tt })
       (λ w r i. listed-right n 1 (alarms_of x r) _ (overflow-listed n (negate_of (value_of x r)) ((negate-tells (value_of x r) a (h.contains r i)).overflow w)))
 
@@ -112,54 +110,54 @@ module _ (vs : List ℤ) where
         by : (t : Bool) → by_zero op b ≡ t → Outcome (binary n op x y) (perform_by t n (exact op a b) p)
         by true e = λ r i. own-listed r 2 (zero-listed n _ (operate-zero op (value_of x r) (value_of y r) a b (ha.contains r i) (hb.contains r i) e))
         by false e =
-            fit-outcome (Valued (binary n op x y)) (Told (binary n op x y)) n (exact op a b) p
+            fit-ends (Valued (binary n op x y)) (Told (binary n op x y)) n (exact op a b) p
             (λ w. record { contains = λ r i. (operate-tells op (value_of x r) (value_of y r) a b (ha.contains r i) (hb.contains r i) e).contains w; reads = tt })
             (λ w r i. own-listed r 1 (overflow-listed n _ ((operate-tells op (value_of x r) (value_of y r) a b (ha.contains r i) (hb.contains r i) e).overflow w)))
 
   -- ---- a choice: the branch that is taken is one that the decision allows, and the values lie within its row
   module _ (n : ℕ) (c : Cond) (x y : Arith) where
-    abbrev row_for : Bool → Row → Maybe
+    abbrev row_for : Bool → Row → Option Row
     row_for w r = branch_of (decision_of c r) w (narrow_of c w r)
 
     row_for-keeps : (w : Bool) → Decided c w → (r : Row) → Inside vs r → Kept vs (row_for w r)
     row_for-keeps w h r i = branch_keeps vs (decision_of c r) w (narrow_of c w r) (h.allowed r i) (h.keeps r i)
 
-    abbrev range_for : Bool → Arith → Row → Interval
+    abbrev range_for : Bool → Arith → Row → Option Interval
     range_for w b r = range_on (row_for w r) (λ s. value_of b s)
 
     abbrev alarms_for : Bool → Arith → Row → List Alarm
     alarms_for w b r = alarms_on (row_for w r) (λ s. alarms_of b s)
 
     -- of the branch b, on its row
-    taken : (w : Bool) (b : Arith) (e : Evaluation) → Decided c w → Outcome b e → ValueOutcome (λ z. (r : Row) → Inside vs r → Holds (range_for w b r) z) (λ m k. (r : Row) → Inside vs r → Listed m k (alarms_for w b r)) e
+    taken : (w : Bool) (b : Arith) (e : Evaluation ℤ) → Decided c w → Outcome b e → EndsWith (λ z. (r : Row) → Inside vs r → Holds (range_for w b r) z) (λ m k. (r : Row) → Inside vs r → Listed m k (alarms_for w b r)) e
     unfolding range_on alarms_on
     taken w b e h o =
-        outcome-mono (Valued b) _ (Told b) _ e o
+        ends-mono (Valued b) _ (Told b) _ e o
         (λ z u r i. kept-some vs (λ s. Holds (range_on s (λ t. value_of b t)) z) (row_for w r) (row_for-keeps w h r i) u.contains)
         (λ m k u r i. kept-some vs (λ s. Listed m k (alarms_on s (λ t. alarms_of b t))) (row_for w r) (row_for-keeps w h r i) u)
 
-    pub choice-outcome : (t : Bool) (p : ℕ) (f g : ℕ → Evaluation) → Decided c t → Outcome x (f p) → Outcome y (g p) → Outcome (choice n c x y) (branch t f g p)
+    pub choice-outcome : (t : Bool) (p : ℕ) (f g : ℕ → Evaluation ℤ) → Decided c t → Outcome x (f p) → Outcome y (g p) → Outcome (choice n c x y) (branch t f g p)
     unfolding branch value_of
     choice-outcome true p f g h hx hy =
-        outcome-mono _ (Valued (choice n c x y)) _ (Told (choice n c x y)) (f p) (taken true x (f p) h hx)
+        ends-mono _ (Valued (choice n c x y)) _ (Told (choice n c x y)) (f p) (taken true x (f p) h hx)
         (λ z u. record { contains = λ r i. join-contains-left _ _ z (u r i); reads = tt })
         (λ m k u r i. listed-right m k (cond_alarms_of c r) _ (listed-left m k (alarms_for true x r) (alarms_for false y r) (u r i)))
     choice-outcome false p f g h hx hy =
-        outcome-mono _ (Valued (choice n c x y)) _ (Told (choice n c x y)) (g p) (taken false y (g p) h hy)
+        ends-mono _ (Valued (choice n c x y)) _ (Told (choice n c x y)) (g p) (taken false y (g p) h hy)
         (λ z u. record { contains = λ r i. join-contains-right _ _ z (u r i); reads = tt })
         (λ m k u r i. listed-right m k (cond_alarms_of c r) _ (listed-right m k (alarms_for true x r) (alarms_for false y r) (u r i)))
 
   -- ---- a comparison
-  carry-keeps : (x : Arith) (z : ℤ) → Reads x z → (s : Interval) (r : Row) → Inside vs r → Holds s z → Kept vs (carry_of x s r)
+  carry-keeps : (x : Arith) (z : ℤ) → Reads x z → (s : Option Interval) (r : Row) → Inside vs r → Holds s z → Kept vs (carry_of x s r)
   unfolding carry_of
   carry-keeps x z q None r i h = absurd h
-  carry-keeps (constant n c) z q (Between a b) r i h = i
-  carry-keeps (input n l u) z q (Between a b) r i h = i
-  carry-keeps (variable n v) z q (Between a b) r i h = meet_at-keeps vs r v (Between a b) i (rw q at h)
-  carry-keeps (negation n x) z q (Between a b) r i h = i
-  carry-keeps (binary n op x y) z q (Between a b) r i h = i
-  carry-keeps (choice n c x y) z q (Between a b) r i h = i
-  carry-keeps (no_arith n) z q (Between a b) r i h = i
+  carry-keeps (constant n c) z q (Some e) r i h = i
+  carry-keeps (input n l u) z q (Some e) r i h = i
+  carry-keeps (variable n v) z q (Some e) r i h = meet_at-keeps vs r v (span e.low e.high) i (rw q at h)
+  carry-keeps (negation n x) z q (Some e) r i h = i
+  carry-keeps (binary n op x y) z q (Some e) r i h = i
+  carry-keeps (choice n c x y) z q (Some e) r i h = i
+  carry-keeps (no_arith n) z q (Some e) r i h = i
 
   pub compare-decided : (n : ℕ) (k : Comparison) (x y : Arith) (a b : ℤ) → Valued x a → Valued y b → Decided (compare n k x y) (test k a b)
   unfolding decision_of carry_both_of

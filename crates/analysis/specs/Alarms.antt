@@ -3,6 +3,13 @@
 use Rattle.std.specs.Prelude.{Bool, true, false, ◌&&◌, ◌||◌, List, [], ◌∷◌, ◌++◌, ℕ, ◌+◌, ◌*◌, ◌-◌, eqb, set}
 use Rattle.interval.specs.declared.Computed.{Computed}
 use Rattle.analysis.specs.declared.Alarm.{Alarm}
+use Rattle.analysis.specs.declared.Kind.{Kind}
+use Rattle.analysis.specs.declared.Kind.TheVariants.{Overflow, Zero}
+
+-- ---- document 01's number of a kind
+abbrev pub kind_number : Kind → ℕ
+kind_number Overflow = 1
+kind_number Zero = 2
 
 -- ---- pairs of a node and a kind: '1 overflow, 2 zero'
 abbrev pub alarm_of : ℕ → ℕ → Alarm

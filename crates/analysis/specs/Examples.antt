@@ -1,15 +1,14 @@
 -- Worked examples of trees on a row, on the words of their nodes, in one table proved by computation: a quotient of document 01, a ring position by
 -- document 02's request 1, choices by its request 2, and what is read by its request 3. The starred trees of document 01 stand in the table of `checker/specs/Examples.antt`.
 -- Assumes nothing.
-use Rattle.std.specs.Prelude.{ℕ, ◌≡◌, refl, Bool, true, false, List, [], ◌∷◌, map, ℤ, pos, negsuc}
-use Rattle.interval.specs.Integer.{min_z, max_z, min4_z, max4_z, eq_z}
-use Rattle.interval.specs.Interval.{least, greatest, on_ends}
+use Rattle.std.specs.Prelude.{ℕ, ◌≡◌, refl, Bool, true, false, List, [], ◌∷◌, map, ℤ, pos, negsuc, Option}
+use Rattle.interval.specs.Integer.{min4_z, max4_z, eq_z}
+use Rattle.interval.specs.Interval.{least, greatest, on_ends, span}
 use Rattle.interval.specs.Lattice.{meet_of, join_of}
 use Rattle.interval.specs.Arithmetic.{hull_of, below_of, above_of, either_part_of, largest_of, remainder_low_of, remainder_high_of, remainders_of, uncut_of, computed_of, negate_of, operate_of}
 use Rattle.interval.specs.Compare.{both_of, decide_of, compare_of}
 use Rattle.interval.specs.Narrow.{low_past_of, high_past_of, without_of, kept_of, cuts_at, cuts_for_of, cuts_of}
 use Rattle.interval.specs.declared.Interval.{Interval}
-use Rattle.interval.specs.declared.Interval.TheVariants.{Between}
 use Rattle.words.specs.Words.{number_of}
 use Rattle.table.specs.Layout.{four_by, four_of}
 use Rattle.table.specs.Decode.{kept, shape_by, shape_from}
@@ -22,7 +21,7 @@ use Rattle.analysis.specs.Analysis.{range_on, alarms_on, carry_of, carry_both_of
 
 -- what a tree gives on a row: its interval and alarms; or whether it reads each of the first four variables
 pub data Answer : Type 0 where
-  values : Interval → List Alarm → Answer
+  values : Option Interval → List Alarm → Answer
   readers : List Bool → Answer
 
 pub record Example : Type 0 where
@@ -169,27 +168,27 @@ valued ns n r = values (value_of (arith_at ns n) r) (alarms_of (arith_at ns n) r
 unfoldable pub table : List Example
 table =
     -- 10 divided by a variable within 0..5: 2..10, zero possible
-    example (valued ratio 2 (row (pos 0) (pos 5))) (values (Between (pos 2) (pos 10)) (alarm_of 2 2 ∷ []))
+    example (valued ratio 2 (row (pos 0) (pos 5))) (values (span (pos 2) (pos 10)) (alarm_of 2 2 ∷ []))
     -- a choice that tests its own divisor the other way round lists nothing either
-    ∷ example (valued apart 7 (row (pos 0) (pos 5))) (values (Between (pos 0) (pos 10)) [])
+    ∷ example (valued apart 7 (row (pos 0) (pos 5))) (values (span (pos 0) (pos 10)) [])
     -- a branch that the decision allows, and that no row is left for, is not taken
-    ∷ example (valued never 11 (row (pos 0) (pos 9))) (values (Between (pos 1) (pos 1)) [])
+    ∷ example (valued never 11 (row (pos 0) (pos 9))) (values (span (pos 1) (pos 1)) [])
     -- a condition's own alarms are those of its decision on the row that came in
-    ∷ example (valued tested 11 (row (pos 0) (pos 5))) (values (Between (pos 0) (pos 1)) (alarm_of 6 2 ∷ []))
+    ∷ example (valued tested 11 (row (pos 0) (pos 5))) (values (span (pos 0) (pos 1)) (alarm_of 6 2 ∷ []))
     -- 'a remainder written by quotient and product alarms for no cause', and one by node 9 doesn't: any offset on a ring of 12
-    ∷ example (valued ring_by_quotient 6 (row least greatest)) (values (Between least greatest) (alarm_of 6 1 ∷ []))
-    ∷ example (valued ring 2 (row least greatest)) (values (Between (negsuc 10) (pos 11)) [])
+    ∷ example (valued ring_by_quotient 6 (row least greatest)) (values (span least greatest) (alarm_of 6 1 ∷ []))
+    ∷ example (valued ring 2 (row least greatest)) (values (span (negsuc 10) (pos 11)) [])
     -- a variable is read in a condition, under its opposite, in either branch and in a choice below
     ∷ example (reading scattered 12) (readers (true ∷ true ∷ true ∷ false ∷ []))
     ∷ example (reading guarded 7) (readers (true ∷ false ∷ false ∷ false ∷ []))
     -- w is 0..5 in both rows, but the second lacks w's low end, so that nothing can be cut there: rows agree by their intervals only if they are paired
-    ∷ example (valued second 5 (row_of (pos 0 ∷ pos 0 ∷ []) (pos 0 ∷ pos 5 ∷ []))) (values (Between (pos 3) (pos 5)) [])
-    ∷ example (valued second 5 (row_of (pos 0 ∷ []) (pos 0 ∷ pos 5 ∷ []))) (values (Between (pos 0) (pos 5)) [])
+    ∷ example (valued second 5 (row_of (pos 0 ∷ pos 0 ∷ []) (pos 0 ∷ pos 5 ∷ []))) (values (span (pos 3) (pos 5)) [])
+    ∷ example (valued second 5 (row_of (pos 0 ∷ []) (pos 0 ∷ pos 5 ∷ []))) (values (span (pos 0) (pos 5)) [])
     ∷ []
 
 abbrev pub Starred : Type 0
 Starred = map (λ (e : Example). e.got) table ≡ map (λ (e : Example). e.said) table
 
 pub starred : Starred
-unfolding table min_z max_z min4_z max4_z eq_z on_ends meet_of join_of hull_of below_of above_of either_part_of largest_of remainder_low_of remainder_high_of remainders_of uncut_of computed_of negate_of operate_of both_of decide_of compare_of low_past_of high_past_of without_of kept_of cuts_at cuts_for_of cuts_of number_of four_by four_of kept shape_by shape_from arith_by cond_by arith_f arith_at cond_at row_if then_row put_of meet_at_of each_rest each join_rows_of alarm_if told_of range_on alarms_on carry_of carry_both_of value_of reads
+unfolding table min4_z max4_z eq_z on_ends meet_of join_of hull_of below_of above_of either_part_of largest_of remainder_low_of remainder_high_of remainders_of uncut_of computed_of negate_of operate_of both_of decide_of compare_of low_past_of high_past_of without_of kept_of cuts_at cuts_for_of cuts_of number_of four_by four_of kept shape_by shape_from arith_by cond_by arith_f arith_at cond_at row_if then_row put_of meet_at_of each_rest each join_rows_of alarm_if told_of range_on alarms_on carry_of carry_both_of value_of reads
 starred = refl

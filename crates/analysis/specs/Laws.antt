@@ -6,10 +6,8 @@ use Rattle.interval.specs.Interval.{Holds}
 use Rattle.interval.specs.Compare.{allows}
 use Rattle.interval.specs.Narrow.{cuts_of}
 use Rattle.interval.specs.declared.Comparison.{Comparison}
-use Rattle.table.specs.declared.Evaluation.TheVariants.{Value, Error}
-use Rattle.table.specs.declared.Verity.TheVariants.{Truth, Failure}
 use Rattle.table.specs.Tree.{Arith, Cond, compare}
-use Rattle.table.specs.Meaning.{result, truth}
+use Rattle.table.specs.Meaning.{result, truth, gives, stops}
 use Rattle.analysis.specs.declared.Alarm.{Alarm}
 use Rattle.analysis.specs.Rows.{Row, Inside, Kept, MaybeWithin}
 use Rattle.analysis.specs.Alarms.{lists, place_of, marked_of}
@@ -26,14 +24,14 @@ pub record Kinds (l : List Alarm) : Type 0 where
 
 pub record Laws : Type 0 where
   -- a value that evaluation gives lies in the interval
-  pub value-contains : (x : Arith) (r : Row) (vs ws : List ℤ) (p : ℕ) → Inside vs r → (z : ℤ) (q : ℕ) → result x vs ws p ≡ Value z q → Holds (value_of x r) z
+  pub value-contains : (x : Arith) (r : Row) (vs ws : List ℤ) (p : ℕ) → Inside vs r → (z : ℤ) (q : ℕ) → result x vs ws p ≡ gives z q → Holds (value_of x r) z
   -- an error that ends it is among the alarms
-  pub error-listed : (x : Arith) (r : Row) (vs ws : List ℤ) (p : ℕ) → Inside vs r → (n k q : ℕ) → result x vs ws p ≡ Error n k q → lists n k (alarms_of x r) ≡ true
+  pub error-listed : (x : Arith) (r : Row) (vs ws : List ℤ) (p : ℕ) → Inside vs r → (n k q : ℕ) → result x vs ws p ≡ stops n k q → lists n k (alarms_of x r) ≡ true
   -- a condition's truth is one that the decision allows
-  pub truth-allowed : (c : Cond) (r : Row) (vs ws : List ℤ) (p : ℕ) → Inside vs r → (b : Bool) (q : ℕ) → truth c vs ws p ≡ Truth b q → allows (decision_of c r) b ≡ true
-  pub failure-listed : (c : Cond) (r : Row) (vs ws : List ℤ) (p : ℕ) → Inside vs r → (n k q : ℕ) → truth c vs ws p ≡ Failure n k q → lists n k (cond_alarms_of c r) ≡ true
+  pub truth-allowed : (c : Cond) (r : Row) (vs ws : List ℤ) (p : ℕ) → Inside vs r → (b : Bool) (q : ℕ) → truth c vs ws p ≡ gives b q → allows (decision_of c r) b ≡ true
+  pub failure-listed : (c : Cond) (r : Row) (vs ws : List ℤ) (p : ℕ) → Inside vs r → (n k q : ℕ) → truth c vs ws p ≡ stops n k q → lists n k (cond_alarms_of c r) ≡ true
   -- the row narrowed by that truth isn't none, and the values lie within it
-  pub narrow_keeps : (c : Cond) (r : Row) (vs ws : List ℤ) (p : ℕ) → Inside vs r → (b : Bool) (q : ℕ) → truth c vs ws p ≡ Truth b q → Kept vs (narrow_of c b r)
+  pub narrow_keeps : (c : Cond) (r : Row) (vs ws : List ℤ) (p : ℕ) → Inside vs r → (b : Bool) (q : ℕ) → truth c vs ws p ≡ gives b q → Kept vs (narrow_of c b r)
   -- a narrowed row lies within the row it came from
   pub narrow_within : (c : Cond) (w : Bool) (r : Row) → MaybeWithin (narrow_of c w r) r
   -- a comparison writes at most two intervals into a row of sixteen slots: the cuts of those of its sides that are variables

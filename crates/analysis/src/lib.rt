@@ -5,18 +5,36 @@
 ghost use Rattle.analysis.specs.Laws.{Laws};
 ghost use Rattle.analysis.specs.Examples.{Starred};
 
-use interval::Decision;
+use interval::{Comparison, Cuts, Decision};
 
 pub mod alarms;
 pub mod evaluate;
 pub mod narrow;
 pub mod rows;
 
-// A row in the sixteen slots that a table can have: all low ends, then all high ends.
-pub type Row = [i32; 32];
+// A row in the sixteen slots that a table can have: all low ends, and all high ends.
+#[derive(Clone, Copy, Debug, Default, PartialEq, Eq)]
+pub struct Row {
+    pub lows: [i32; 16],
+    pub highs: [i32; 16],
+}
+
+// A row that is read where it lies, as in a proposal.
+#[derive(Clone, Copy)]
+pub struct Ends<'a> {
+    pub lows: &'a [i32],
+    pub highs: &'a [i32],
+}
+
+// The kinds of error, with document 01's numbers.
+#[derive(Clone, Copy, Debug, PartialEq, Eq)]
+pub enum Kind {
+    Overflow = 1,
+    Zero = 2,
+}
 
 // What a condition says of a row: its decision, and whether there is a row where it is true and one where it is false.
-#[derive(Clone, Copy)]
+#[derive(Clone, Copy, Debug, PartialEq, Eq)]
 pub struct Split {
     pub decision: Decision,
     pub yes: bool,
@@ -24,24 +42,44 @@ pub struct Split {
 }
 
 // A node, and whether the 'not' around it turn it.
-#[derive(Clone, Copy)]
+#[derive(Clone, Copy, Debug, PartialEq, Eq)]
 pub struct Bare {
     pub node: usize,
     pub turned: bool,
 }
 
-// What a condition is asked: the truth by which a row is narrowed in its place; whether that row is a copy of the row that is read, and whether the row
-// from which the opposite starts is one; and whether there is a row that what the opposite leaves is joined to, or a copy of the row from which it starts.
+// A comparison of two arithmetic nodes.
+#[derive(Clone, Copy, Debug, PartialEq, Eq)]
+pub(crate) struct Compared {
+    pub(crate) comparison: Comparison,
+    pub(crate) left: usize,
+    pub(crate) right: usize,
+}
+
+// What a comparison cuts, and of which variables: those that its sides are, or two different numbers past the slots.
+#[derive(Clone, Copy, Debug, PartialEq, Eq)]
+pub(crate) struct SlotCuts {
+    pub(crate) v: usize,
+    pub(crate) w: usize,
+    pub(crate) cuts: Cuts,
+}
+
+// What a condition is asked: its decision and alarms on a row that is read; the truth by which another row is narrowed in its place, and whether that one
+// is a copy of the row that is read; the row from which the opposite starts, and whether it is one; and whether there is a row that what the opposite
+// leaves is joined to, or a copy of the row from which it starts.
 #[derive(Clone, Copy)]
-pub(crate) struct Asked {
+pub(crate) struct Asked<'a> {
+    pub(crate) nodes: &'a [i32],
+    pub(crate) row: &'a Row,
     pub(crate) truth: bool,
     pub(crate) copy: bool,
+    pub(crate) from: &'a Row,
     pub(crate) from_copy: bool,
     pub(crate) some: bool,
 }
 
 // What it says: its decision, and whether there is a row where one was narrowed and where one was joined.
-#[derive(Clone, Copy)]
+#[derive(Clone, Copy, Debug, PartialEq, Eq)]
 pub(crate) struct Said {
     pub(crate) decision: Decision,
     pub(crate) narrowed: bool,
@@ -49,7 +87,7 @@ pub(crate) struct Said {
 }
 
 // A node, and the kind of error that is possible there: 1 overflow, 2 division by zero.
-#[derive(Clone, Copy)]
+#[derive(Clone, Copy, Debug, PartialEq, Eq)]
 pub struct Alarm {
     pub node: usize,
     pub kind: usize,

@@ -1,205 +1,171 @@
-// Rows: reading one through two lent slices, and changing one that is an array in its place. Where a function answers false there is no row, and the
-// words of the lent one are left open.
-ghost use Rattle.std.specs.Prelude.{◌≡◌, true, not, ◌≤◌, length};
-ghost use Rattle.std.proofs.Math.Seq.{paste};
-ghost use Rattle.interval.specs.Integer.{min_z, max_z, eq_z};
-ghost use Rattle.interval.specs.declared.Interval.TheVariants.{Between};
+// Rows: reading one where it lies, and changing one in its place. Where a function answers false there is no row, and what stands in its place is
+// left open.
+ghost use Rattle.std.specs.Prelude.{◌≡◌, true, not, Some};
+ghost use Rattle.std.specs.Int.{int_min, int_max};
 ghost use Rattle.words.specs.Words.{word_of};
-ghost use Rattle.words.specs.First.{all_below};
-ghost use Rattle.analysis.specs.Rows.{row_of, range_of, own_of, put_of, meet_at_of, then_row, join_rows_of, some, maybe_by};
-ghost use Rattle.analysis.specs.Arrays.{row_in, outer_of, left_of, CopyIf};
+ghost use Rattle.interval.specs.Interval.{span};
+ghost use Rattle.analysis.specs.Rows.{seen, range_of, own_of, put_of, meet_at_of, then_row, join_rows_of, maybe_by};
+ghost use Rattle.analysis.specs.Arrays.{left_of, CopyIf};
 
-use crate::Row;
+use crate::{Ends, Row};
 use interval::Interval;
-use interval::integer::{max32, min32, same};
 use interval::lattice::{between, meet};
-use words::{part, word};
+use words::{padded, word};
 
-// The interval of the variable v.
-pub fn range<'a>(lows: &'a [i32], highs: &'a [i32], v: usize) -> Interval
-    ensures { result ≡ range_of (row_of lows.now highs.now) v }
-{
-    between(word(lows, v), word(highs, v))
-}
-
-// The low ends of a row in an array.
-pub fn low_ends(row: &[i32]) -> &[i32]
-    ensures { result.now ≡ (row_in row.now).lows }
-{
-    part(row, 0, 16)
-}
-
-// The high ends.
-pub fn high_ends(row: &[i32]) -> &[i32]
-    ensures { result.now ≡ (row_in row.now).highs }
-{
-    part(row, 16, 16)
-}
-
-// The interval of the variable v of a row in an array.
-pub(crate) fn range_in(row: &[i32], v: usize) -> Interval
-    ensures { result ≡ range_of (row_in row.now) v }
-{
-    range(low_ends(row), high_ends(row), v)
-}
-
-// The interval of the variable v in the sixteen slots of a row, which is read where it lies.
-pub(crate) fn slot<'a>(lows: &'a [i32], highs: &'a [i32], v: usize) -> Interval
-    ensures { result ≡ range_of (own_of (row_of lows.now highs.now)) v }
-{
-    if 16 <= v {
-        return Interval::Between(0, 0);
+impl<'a> Ends<'a> {
+    // The interval of the variable v.
+    pub fn range(&self, v: usize) -> Option<Interval>
+        ensures { result ≡ range_of (seen self.now) v }
+    {
+        between(word(self.lows, v), word(self.highs, v))
     }
-    range(lows, highs, v)
-}
 
-// The words ws in the row's array, from the place at on.
-fn put_ends<'a, 'b>(row: &'a mut [i32], at: usize, ws: &'b [i32])
-    requires { (length row.old ≡ 32) × (at ≤ 16) × (length ws.now ≤ 16) }
-    ensures { row.new ≡ paste row.old at ws.now (length ws.now) }
-{
-    let mut i = 0;
-    while i < ws.len() {
-        row[at + i] = ws[i];
-        i += 1;
-    }
-}
-
-// The row of two lent slices, as a row of its own.
-pub fn own<'a>(lows: &'a [i32], highs: &'a [i32]) -> Row
-    ensures { row_in result ≡ own_of (row_of lows.now highs.now) }
-{
-    let mut row = [0i32; 32];
-    put_ends(&mut row, 0, part(lows, 0, 16));
-    put_ends(&mut row, 16, part(highs, 0, 16));
-    row
-}
-
-// The row with the interval s of v; none where s is none.
-pub(crate) fn put(row: &mut [i32], v: usize, s: Interval) -> bool
-    requires { length row.old ≡ 32 }
-    ensures { maybe_by result (row_in row.new) ≡ put_of (row_in row.old) v s }
-{
-    let Interval::Between(a, b) = s else {
-        return false;
-    };
-    if v < 16 {
-        row[v] = a;
-        row[v + 16] = b;
-    }
-    true
-}
-
-// The row, where v is known to lie in s.
-pub(crate) fn meet_at(row: &mut Row, v: usize, s: Interval) -> bool
-    ensures { maybe_by result (row_in row.new) ≡ meet_at_of (row_in row.old) v s }
-{
-    let x = range_in(&*row, v);
-    put(row, v, meet(x, s))
-}
-
-// The word i of two rows together: the lesser low end, the greater high end.
-fn outer(i: usize, x: i32, y: i32) -> i32
-    ensures { result ≡ outer_of i x y }
-{
-    if i < 16 { min32(x, y) } else { max32(x, y) }
-}
-
-// Two rows together, in the place of the first.
-fn widen<'a, 'b>(row: &'a mut [i32], more: &'b [i32])
-    requires { (length row.old ≡ 32) × (length more.now ≡ 32) }
-    ensures { some (row_in row.new) ≡ join_rows_of (some (row_in row.old)) (some (row_in more.now)) }
-{
-    let mut i = 0;
-    while i < 32 {
-        row[i] = outer(i, row[i], more[i]);
-        i += 1;
-    }
-}
-
-// The ends of the variable v in a row, widened by a..b.
-fn widened_at(row: &[i32], v: usize, a: i32, b: i32) -> Interval
-    ensures { result ≡ Between (min_z (word_of (row_in row.now).lows v) a) (max_z (word_of (row_in row.now).highs v) b) }
-{
-    let low = min32(word(low_ends(row), v), a);
-    let high = max32(word(high_ends(row), v), b);
-    Interval::Between(low, high)
-}
-
-// Two rows together, in the place of the first, where the second has a..b at v and then c..d at w in place of its own.
-pub(crate) fn widen_cut<'a, 'b>(
-    row: &'a mut [i32],
-    more: &'b [i32],
-    v: usize,
-    a: i32,
-    b: i32,
-    w: usize,
-    c: i32,
-    d: i32,
-)
-    requires { (length row.old ≡ 32) × (length more.now ≡ 32) }
-    ensures { some (row_in row.new) ≡ join_rows_of (some (row_in row.old)) (then_row (put_of (row_in more.now) v (Between a b)) (λ s. put_of s w (Between c d))) }
-{
-    let x = widened_at(row, v, a, b);
-    let y = widened_at(row, w, c, d);
-    widen(row, more);
-    put(row, v, x);
-    put(row, w, y);
-}
-
-// The row and the other, if that is there, together, in the row's place.
-pub(crate) fn widen_if<'a, 'b>(there: bool, row: &'a mut Row, more: &'b Row)
-    ensures { some (row_in row.new) ≡ join_rows_of (some (row_in row.old)) (maybe_by there (row_in more.now)) }
-{
-    if !there {
-        return;
-    }
-    widen(row, more);
-}
-
-// Whether all words are the same.
-fn equal<'a>(a: &'a [i32], b: &'a [i32]) -> bool
-    requires { (length a.now ≡ 32) × (length b.now ≡ 32) }
-    ensures { result ≡ all_below (λ i. eq_z (word_of a.now i) (word_of b.now i)) 32 }
-{
-    let mut i = 0;
-    while i < 32 {
-        if !same(a[i], b[i]) {
-            return false;
+    // The interval of the variable v in the sixteen slots of a row, which is read where it lies.
+    #[tactic(auto, using(crate::proofs::RowLaws::slot_words))]
+    pub(crate) fn slot(&self, v: usize) -> Option<Interval>
+        ensures { result ≡ range_of (own_of (seen self.now)) v }
+    {
+        if 16 <= v {
+            return Some(Interval { low: 0, high: 0 });
         }
-        i += 1;
+        self.range(v)
     }
-    true
-}
 
-// Whether what was left in a row's place, if there is some, is a copy of the row. Where there is none, a copy is put there.
-pub(crate) fn is_copy<'a, 'b>(some: bool, left: &'a mut Row, row: &'b Row) -> bool
-    ensures left_unchanged { maybe_by some (row_in left.new) ≡ maybe_by some (row_in left.old) }
-    ensures left_after { (result ≡ true) → (left.new ≡ row.now) }
-{
-    if !some {
-        *left = *row;
-        return true;
-    }
-    let l = &*left;
-    equal(l, row)
-}
-
-// A copy of the row from in the row's place, where there is none.
-pub(crate) fn copy_unless<'a, 'b>(some: bool, row: &'a mut Row, from: &'b Row)
-    ensures row_unchanged { maybe_by some (row_in row.new) ≡ maybe_by some (row_in row.old) }
-    ensures copy_if { CopyIf (not some) row.new from.now }
-{
-    if !some {
-        *row = *from;
+    // A row of its own.
+    #[tactic(auto, unfolding(crate::specs::Rows::slots_of))]
+    pub fn own(&self) -> Row
+        ensures { result ≡ own_of (seen self.now) }
+    {
+        Row {
+            lows: padded(self.lows),
+            highs: padded(self.highs),
+        }
     }
 }
 
-// Zeros in the row's place, where there is none.
-pub(crate) fn clear_unless(some: bool, row: &mut Row)
-    ensures { row_in row.new ≡ left_of (maybe_by some (row_in row.old)) }
-{
-    if !some {
-        *row = [0; 32];
+impl Row {
+    // The row where it lies.
+    pub fn ends(&self) -> Ends<'_>
+        ensures { seen result ≡ self.now }
+    {
+        Ends {
+            lows: &self.lows,
+            highs: &self.highs,
+        }
+    }
+
+    // The interval of the variable v.
+    pub fn range(&self, v: usize) -> Option<Interval>
+        ensures { result ≡ range_of self.now v }
+    {
+        self.ends().range(v)
+    }
+
+    // The interval x of v in its place; past the slots there is none to change.
+    #[tactic(auto, unfolding(crate::specs::Rows::put_of))]
+    pub fn set(&mut self, v: usize, x: Interval)
+        ensures { Some self.new ≡ put_of self.old v (Some x) }
+    {
+        if v < 16 {
+            self.lows[v] = x.low;
+            self.highs[v] = x.high;
+        }
+    }
+
+    // The row with the interval s of v; none where s is none.
+    #[tactic(auto, unfolding(crate::specs::Rows::maybe_by, crate::specs::Rows::put_of))]
+    pub fn put(&mut self, v: usize, s: Option<Interval>) -> bool
+        ensures { maybe_by result self.new ≡ put_of self.old v s }
+    {
+        if let Some(x) = s {
+            self.set(v, x);
+        }
+        s.is_some()
+    }
+
+    // The row, where v is known to lie in s.
+    #[tactic(auto, unfolding(crate::specs::Rows::meet_at_of))]
+    pub(crate) fn meet_at(&mut self, v: usize, s: Option<Interval>) -> bool
+        ensures { maybe_by result self.new ≡ meet_at_of self.old v s }
+    {
+        let x = self.range(v);
+        self.put(v, meet(x, s))
+    }
+
+    // Two rows together, in the place of the first.
+    #[tactic(auto, using(crate::proofs::RowCodeLaws::joining))]
+    pub fn widen(&mut self, more: &Row)
+        ensures { Some self.new ≡ join_rows_of (Some self.old) (Some more.now) }
+    {
+        for v in 0..16 {
+            self.lows[v] = self.lows[v].min(more.lows[v]);
+            self.highs[v] = self.highs[v].max(more.highs[v]);
+        }
+    }
+
+    // The ends of the variable v, widened by x.
+    fn widened_at(&self, v: usize, x: Interval) -> Interval
+        ensures { Some result ≡ span (int_min (word_of self.now.lows v) x.low) (int_max (word_of self.now.highs v) x.high) }
+    {
+        Interval {
+            low: word(&self.lows, v).min(x.low),
+            high: word(&self.highs, v).max(x.high),
+        }
+    }
+
+    // Two rows together, in the place of the first, where the second has x at v and then y at w in place of its own.
+    #[tactic(auto, using(crate::proofs::JoinLaws::each_sets), unfolding(crate::specs::Rows::then_row, crate::specs::Rows::put_of, crate::specs::Rows::join_rows_of))]
+    pub(crate) fn widen_cut(&mut self, more: &Row, v: usize, x: Interval, w: usize, y: Interval)
+        ensures { Some self.new ≡ join_rows_of (Some self.old) (then_row (put_of more.now v (Some x)) (λ s. put_of s w (Some y))) }
+    {
+        let first = self.widened_at(v, x);
+        let second = self.widened_at(w, y);
+        self.widen(more);
+        self.set(v, first);
+        self.set(w, second);
+    }
+
+    // The row and the other, if that is there, together, in the row's place.
+    #[tactic(auto, unfolding(crate::specs::Rows::maybe_by, crate::specs::Rows::join_rows_of))]
+    pub(crate) fn widen_if(&mut self, there: bool, more: &Row)
+        ensures { Some self.new ≡ join_rows_of (Some self.old) (maybe_by there more.now) }
+    {
+        if there {
+            self.widen(more);
+        }
+    }
+
+    // Whether what was left in this place, if there is some, is a copy of the row. Where there is none, a copy is put there.
+    #[tactic(auto, using(crate::proofs::RowCodeLaws::same_words), unfolding(crate::specs::Rows::maybe_by))]
+    pub(crate) fn is_copy(&mut self, some: bool, row: &Row) -> bool
+        ensures unchanged { maybe_by some self.new ≡ maybe_by some self.old }
+        ensures copy { (result ≡ true) → (self.new ≡ row.now) }
+    {
+        if !some {
+            *self = *row;
+            return true;
+        }
+        *self == *row
+    }
+
+    // A copy of the row from in this place, where there is none.
+    #[tactic(auto, unfolding(crate::specs::Rows::maybe_by))]
+    pub(crate) fn copy_unless(&mut self, some: bool, from: &Row)
+        ensures unchanged { maybe_by some self.new ≡ maybe_by some self.old }
+        ensures copy { CopyIf (not some) self.new from.now }
+    {
+        if !some {
+            *self = *from;
+        }
+    }
+
+    // Zeros in this place, where there is none.
+    #[tactic(auto, using(crate::proofs::RowCodeLaws::cleared), unfolding(crate::specs::Rows::maybe_by, crate::specs::Arrays::left_of))]
+    pub(crate) fn clear_unless(&mut self, some: bool)
+        ensures { self.new ≡ left_of (maybe_by some self.old) }
+    {
+        if !some {
+            *self = Row::default();
+        }
     }
 }

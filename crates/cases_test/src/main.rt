@@ -10,12 +10,10 @@ mod tree;
 use crate::read::read_words;
 use words::{number, number_at, word};
 
-// Reads a case and prints its line; whether there was one.
-fn respond() -> bool {
+// Reads a case and prints its line; nothing where no case came whole.
+fn respond() -> Option<()> {
     let mut head = [0i32; 2];
-    if !read_words(&mut head, 2) {
-        return false;
-    }
+    read_words(&mut head, 2)?;
     let first = word(&head, 0);
     let second = number_at(&head, 1);
     if first < 0 {
@@ -25,11 +23,9 @@ fn respond() -> bool {
 }
 
 fn main() {
-    let mut left: usize = 1000000;
-    while 0 < left {
-        if !respond() {
+    for _ in 0..1000000 {
+        if respond().is_none() {
             return;
         }
-        left -= 1;
     }
 }

@@ -1,74 +1,55 @@
 // A run: the lengths of a table and of a schedule, then their words. Its line is the table's refusal, or the last state as 48 numbers.
-use crate::print::{print_number, print_pair, print_word};
-use crate::read::{read_words, word_room};
+use crate::print::print_line;
+use crate::read::{WORDS, read_words};
+use run::State;
 use run::play::run;
-use run::{Played, State};
-use words::{Stage, part};
+use std::fmt::{self, Display};
+use words::{Refusal, filled, part};
 
-fn print_owner(o: i8) {
-    print_word(o as i32);
-}
+// What a run gave.
+#[derive(Clone, Copy)]
+struct Played(Result<State, Refusal>);
 
-fn print_node(n: i16) {
-    print_word(n as i32);
-}
-
-// The k-th of the 48 numbers: points, values, owners, stop nodes, stop kinds.
-fn print_place(s: State, k: usize) {
-    let points = s.points;
-    let values = s.values;
-    let owners = s.owners;
-    let stop_nodes = s.stop_nodes;
-    let stop_kinds = s.stop_kinds;
-    if k < 8 {
-        print_number(points[k] as usize);
-    } else if k < 24 {
-        print_word(values[k - 8]);
-    } else if k < 32 {
-        print_owner(owners[k - 24]);
-    } else if k < 40 {
-        print_node(stop_nodes[k - 32]);
-    } else if k < 48 {
-        print_number(stop_kinds[k - 40] as usize);
-    }
-}
-
-fn print_state(s: State) {
-    print_place(s, 0);
-    let mut k = 1;
-    while k < 48 {
-        io::write_all(1, b" ");
-        print_place(s, k);
-        k += 1;
-    }
-}
-
-fn print_played(p: Played) {
-    let stage = p.stage;
-    let s = p.state;
-    match stage {
-        Stage::Passed => {
-            print_state(s);
-        }
-        Stage::Broken(rule, place) => {
-            print_pair(b"refused ", rule as usize, b" at ", place);
+impl Display for Played {
+    fn fmt<W: fmt::Write>(&self, f: &mut fmt::Formatter<W>) -> fmt::Result {
+        match &self.0 {
+            Ok(state) => write_state(f, state),
+            Err(refusal) => write!(f, "refused {} at {}", refusal.rule.number(), refusal.place),
         }
     }
-    io::write_all(1, b"\n");
 }
 
-// Reads a table of n words and a schedule of m and prints their line; whether they came whole.
-pub(crate) fn respond(n: usize, m: usize) -> bool {
+// Points, values, owners, stop nodes, stop kinds.
+fn write_state<W: fmt::Write>(f: &mut fmt::Formatter<W>, state: &State) -> fmt::Result {
+    write!(f, "{}", state.points[0])?;
+    write_more(f, &state.points[1..])?;
+    write_more(f, &state.values)?;
+    write_more(f, &state.owners)?;
+    write_more(f, &state.stop_nodes)?;
+    write_more(f, &state.stop_kinds)
+}
+
+// Numbers, each after a space.
+fn write_more<W: fmt::Write, T: Display + Copy>(
+    f: &mut fmt::Formatter<W>,
+    numbers: &[T],
+) -> fmt::Result {
+    for n in numbers {
+        write!(f, " {n}")?;
+    }
+    Ok(())
+}
+
+// Reads a table of n words and a schedule of m and prints their line, if they come whole.
+pub(crate) fn respond(n: usize, m: usize) -> Option<()> {
     if 6000 < n {
-        return false;
+        return None;
     }
     if 6000 < m {
-        return false;
+        return None;
     }
-    let mut words = word_room();
-    if !read_words(&mut words, n + m) {
-        return false;
-    }
-    print_played(run(part(&words, 0, n), part(&words, n, m)));
-    true
+    let mut words: [i32; WORDS] = filled(0);
+    read_words(&mut words, n + m)?;
+    print_line(Played(run(part(&words, 0, n), part(&words, n, m))));
+    Some(())
 }

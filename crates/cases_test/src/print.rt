@@ -1,23 +1,17 @@
-// Numbers and words to standard output.
-use words::number;
+// Lines to standard output.
+use std::fmt::{self, Display, Write};
 
-pub(crate) fn print_number(n: usize) {
-    io::print_decimal(1, n as u64);
-}
+// Standard output. Text that it doesn't take is lost, and the next is tried.
+#[derive(Clone, Copy)]
+struct Out;
 
-pub(crate) fn print_word(z: i32) {
-    if z < 0 {
-        io::write_all(1, b"-");
-        io::print_decimal(1, number(!z) as u64 + 1);
-    } else {
-        print_number(number(z));
+impl Write for Out {
+    fn write_str(&mut self, s: &str) -> fmt::Result {
+        io::write_all(1, s.as_bytes());
+        Ok(())
     }
 }
 
-// Two numbers, each behind its text.
-pub(crate) fn print_pair(before: &[u8], a: usize, between: &[u8], b: usize) {
-    io::write_all(1, before);
-    print_number(a);
-    io::write_all(1, between);
-    print_number(b);
+pub(crate) fn print_line<D: Display + Drop>(line: D) {
+    let _ = writeln!(Out, "{line}");
 }

@@ -2,36 +2,24 @@
 ghost use Rattle.std.specs.Prelude.{◌≤◌, ◌≡◌, length};
 
 use words::bytes::decode;
+use words::filled;
 
-// Room, as zeros. The `ensures` gives only the length, so that no proof unfolds the array.
-fn byte_room() -> [u8; 48000]
-    ensures { 48000 ≡ length result }
-{
-    [0; 48000]
-}
+// How many words a case can have behind its sizes.
+pub(crate) const WORDS: usize = 12000;
 
-// Room for the words of a case behind its sizes.
-pub(crate) fn word_room() -> [i32; 12000]
-    ensures { 12000 ≡ length result }
-{
-    [0; 12000]
-}
-
-// Reads that many bytes to the front of the room; whether they came.
-fn read_part(room: &mut [u8], n: usize) -> bool
+// Reads that many bytes to the front of the room, if they come.
+fn read_part(room: &mut [u8], n: usize) -> Option<()>
     requires { n ≤ length room.old }
 {
-    io::read_full(0, &mut room[..n]) == n
+    (io::read_full(0, &mut room[..n]) == n).then_some(())
 }
 
-// Reads that many words to the front of the room; whether they came.
-pub(crate) fn read_words(room: &mut [i32], n: usize) -> bool
+// Reads that many words to the front of the room, if they come.
+pub(crate) fn read_words(room: &mut [i32], n: usize) -> Option<()>
     requires { n ≤ 12000 }
 {
-    let mut bytes = byte_room();
-    if !read_part(&mut bytes, 4 * n) {
-        return false;
-    }
+    let mut bytes: [u8; 48000] = filled(0);
+    read_part(&mut bytes, 4 * n)?;
     decode(&bytes[..4 * n], room);
-    true
+    Some(())
 }

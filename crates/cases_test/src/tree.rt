@@ -1,130 +1,118 @@
 // A tree on a row: -1 less the mode, the node, how many words the nodes are and how many variables there are; then the nodes' words, the low ends
 // and the high ends. Mode 0 asks for the value of the node, 1 for its decision, 2 and 3 for the row narrowed by it, wanted false and true.
-ghost use Rattle.std.specs.Prelude.{◌≡◌, length};
-
-use crate::print::{print_pair, print_word};
-use crate::read::{read_words, word_room};
-use analysis::Row;
+use crate::print::print_line;
+use crate::read::{WORDS, read_words};
 use analysis::evaluate::{sides, value_on};
-use analysis::rows::{high_ends, low_ends, own};
+use analysis::{Ends, Row};
 use interval::{Decision, Interval};
-use words::{number_at, part, word};
+use std::fmt::{self, Display};
+use words::{filled, number_at, part, word};
 
-// Room, as zeros. The `ensures` gives only the length, so that no proof unfolds the array.
-fn mark_room() -> [u8; 2048]
-    ensures { 2048 ≡ length result }
-{
-    [0; 2048]
+// What is asked, by its mode.
+#[derive(Clone, Copy)]
+enum Asked {
+    Value,
+    Decision,
+    Narrowed { wanted: bool },
 }
 
-// The two ends of an interval, each after a space.
-fn print_ends(low: i32, high: i32) {
-    io::write_all(1, b" ");
-    print_word(low);
-    io::write_all(1, b" ");
-    print_word(high);
-}
-
-fn print_value(s: Interval) {
-    io::write_all(1, b"value");
-    match s {
-        Interval::None => {
-            io::write_all(1, b" none");
-        }
-        Interval::Between(low, high) => {
-            print_ends(low, high);
+impl Asked {
+    fn of(mode: usize) -> Option<Asked> {
+        match mode {
+            0 => Some(Asked::Value),
+            1 => Some(Asked::Decision),
+            2 => Some(Asked::Narrowed { wanted: false }),
+            3 => Some(Asked::Narrowed { wanted: true }),
+            _ => None,
         }
     }
 }
 
-fn print_decision(d: Decision) {
-    print_pair(b"decision ", d.yes as usize, b" ", d.no as usize);
+// What is said: a value or a decision with the marks of its alarms, or the ends of the first n variables of a row.
+#[derive(Clone, Copy)]
+enum Said<'a> {
+    Value(Option<Interval>, &'a [u8]),
+    Decision(Decision, &'a [u8]),
+    Narrowed(Option<&'a Row>, usize),
+}
+
+impl Display for Said<'_> {
+    fn fmt<W: fmt::Write>(&self, f: &mut fmt::Formatter<W>) -> fmt::Result {
+        match *self {
+            Said::Value(None, marks) => {
+                write!(f, "value none")?;
+                write_marks(f, marks)
+            }
+            Said::Value(Some(x), marks) => {
+                write!(f, "value {} {}", x.low, x.high)?;
+                write_marks(f, marks)
+            }
+            Said::Decision(d, marks) => {
+                write!(f, "decision {} {}", u8::from(d.yes), u8::from(d.no))?;
+                write_marks(f, marks)
+            }
+            Said::Narrowed(None, _) => write!(f, "row none"),
+            Said::Narrowed(Some(row), n) => write_row(f, row, n),
+        }
+    }
 }
 
 // The marked alarms by node, then kind. There are two marks for each node.
-fn print_marks(marks: &[u8]) {
-    let mut i = 0;
-    while i < marks.len() {
-        if marks[i] == 1 {
-            print_pair(b" alarm ", i / 2, b" ", i % 2 + 1);
+fn write_marks<W: fmt::Write>(f: &mut fmt::Formatter<W>, marks: &[u8]) -> fmt::Result {
+    for (i, mark) in marks.iter().enumerate() {
+        if *mark == 1 {
+            write!(f, " alarm {} {}", i / 2, i % 2 + 1)?;
         }
-        i += 1;
     }
+    Ok(())
 }
 
-// The ends of the first n variables.
-fn print_row<'a>(lows: &'a [i32], highs: &'a [i32], n: usize) {
-    let mut v = 0;
-    while v < n {
-        print_ends(word(lows, v), word(highs, v));
-        v += 1;
+// The two ends of each of the first n variables.
+fn write_row<W: fmt::Write>(f: &mut fmt::Formatter<W>, row: &Row, n: usize) -> fmt::Result {
+    write!(f, "row")?;
+    for v in 0..n {
+        write!(f, " {} {}", word(&row.lows, v), word(&row.highs, v))?;
     }
+    Ok(())
 }
 
-fn print_narrowed(some: bool, row: &Row, n: usize) {
-    io::write_all(1, b"row");
-    if some {
-        print_row(low_ends(row), high_ends(row), n);
-    } else {
-        io::write_all(1, b" none");
+// What the node says of the row.
+fn answer(asked: Asked, node: usize, nodes: &[i32], row: &Ends<'_>) {
+    let mut marks: [u8; 2048] = filled(0);
+    if let Asked::Value = asked {
+        let value = value_on(nodes, node, row, &mut marks);
+        return print_line(Said::Value(value, &marks));
     }
+    let mut yes = Row::default();
+    let mut no = Row::default();
+    let split = sides(nodes, node, &row.own(), &mut marks, &mut yes, &mut no);
+    let n = row.lows.len();
+    print_line(match asked {
+        Asked::Narrowed { wanted: true } => Said::Narrowed(split.yes.then_some(&yes), n),
+        Asked::Narrowed { wanted: false } => Said::Narrowed(split.no.then_some(&no), n),
+        _ => Said::Decision(split.decision, &marks),
+    });
 }
 
-// What the condition node says of the row: by the mode its decision with its alarms, or one of the rows that it leaves of the first n variables.
-fn print_sides(mode: usize, nodes: &[i32], node: usize, row: &Row, n: usize) {
-    let mut marks = mark_room();
-    let mut yes = [0i32; 32];
-    let mut no = [0i32; 32];
-    let s = sides(nodes, node, row, &mut marks, &mut yes, &mut no);
-    if mode == 1 {
-        print_decision(s.decision);
-        print_marks(&marks);
-    } else if mode == 2 {
-        print_narrowed(s.no, &no, n);
-    } else {
-        print_narrowed(s.yes, &yes, n);
-    }
-}
-
-fn answer<'a>(mode: usize, node: usize, nodes: &'a [i32], lows: &'a [i32], highs: &'a [i32]) {
-    if mode == 0 {
-        let mut marks = mark_room();
-        print_value(value_on(nodes, node, lows, highs, &mut marks));
-        print_marks(&marks);
-    } else {
-        let row = own(lows, highs);
-        print_sides(mode, nodes, node, &row, lows.len());
-    }
-    io::write_all(1, b"\n");
-}
-
-// Reads the nodes and the row of a case and prints its line; whether they came whole.
-pub(crate) fn respond(mode: usize, node: usize) -> bool {
-    if 3 < mode {
-        return false;
-    }
+// Reads the nodes and the row of a case and prints its line, if they come whole.
+pub(crate) fn respond(mode: usize, node: usize) -> Option<()> {
+    let asked = Asked::of(mode)?;
     let mut sizes = [0i32; 2];
-    if !read_words(&mut sizes, 2) {
-        return false;
-    }
+    read_words(&mut sizes, 2)?;
     let n = number_at(&sizes, 0);
     if 4096 < n {
-        return false;
+        return None;
     }
     let v = number_at(&sizes, 1);
     if 16 < v {
-        return false;
+        return None;
     }
-    let mut words = word_room();
-    if !read_words(&mut words, n + 2 * v) {
-        return false;
-    }
-    answer(
-        mode,
-        node,
-        part(&words, 0, n),
-        part(&words, n, v),
-        part(&words, n + v, v),
-    );
-    true
+    let mut words: [i32; WORDS] = filled(0);
+    read_words(&mut words, n + 2 * v)?;
+    let row = Ends {
+        lows: part(&words, n, v),
+        highs: part(&words, n + v, v),
+    };
+    answer(asked, node, part(&words, 0, n), &row);
+    Some(())
 }

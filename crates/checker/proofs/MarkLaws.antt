@@ -16,7 +16,8 @@ use Rattle.table.specs.Tree.{arith_at, cond_at}
 use Rattle.table.specs.declared.Point.{Point}
 use Rattle.table.specs.declared.Point.TheVariants.{End, Assign, Test, Lock, Unlock}
 use Rattle.analysis.specs.declared.Alarm.{Alarm}
-use Rattle.analysis.specs.Rows.{Row, own_of}
+use Rattle.analysis.specs.declared.Row.{Row}
+use Rattle.analysis.specs.Rows.{own_of}
 use Rattle.analysis.specs.Alarms.{lists, place_of, marked_of}
 use Rattle.analysis.specs.Laws.{IsKind, Kinds}
 use Rattle.analysis.proofs.AlarmLaws.{lists-append, empty-kinds, append-kinds, marked-lists}

@@ -1,20 +1,20 @@
 -- What acceptance gives, and what the alarm list is. The function `laws_hold` has these laws as its contract.
 -- Assumes nothing.
-use Rattle.std.specs.Prelude.{ℕ, ◌+◌, ◌*◌, ◌<◌, ◌≤◌, ◌≡◌, Bool, true, false, ◌&&◌, ◌||◌, List, [], ◌∷◌, eqb, ltb, ℤ, length}
+use Rattle.std.specs.Prelude.{ℕ, ◌+◌, ◌*◌, ◌<◌, ◌≤◌, ◌≡◌, Bool, true, false, ◌&&◌, ◌||◌, List, [], ◌∷◌, eqb, ltb, ℤ, length, Ok}
 use Rattle.words.specs.Words.{number_of}
-use Rattle.words.specs.declared.Stage.TheVariants.{Passed}
 use Rattle.table.specs.Layout.{sizes_of}
 use Rattle.table.specs.Validate.{validate_of}
 use Rattle.analysis.specs.Laws.{IsKind}
-use Rattle.checker.specs.declared.Verdict.TheVariants.{Accepted, Refused}
 use Rattle.rules.specs.Proposal.{entries_of, intervals_of, lows_from, proposal_length}
 use Rattle.rules.specs.Rules.{rule8, rule9, rule10, rule11, rule12, rule13, rule14, rule15, rule16}
 use Rattle.checker.specs.AlarmList.{raised, alarm_words}
 use Rattle.checker.specs.Check.{check_of}
+use Rattle.words.specs.Stages.{passed, broken}
+use Rattle.words.specs.declared.refusal.Rule.TheVariants.{Room}
 
 -- ---- acceptance: a field for each rule
 pub record Accepts (t w : List ℤ) (room count : ℕ) : Type 0 where
-  pub table : validate_of t ≡ Passed
+  pub table : validate_of t ≡ passed
   pub whole : length w ≡ proposal_length t w
   pub match : (k : ℕ) → k < 4 → rule8 t w k ≡ true
   pub range : (i : ℕ) → i < lows_from t w + intervals_of t w → rule9 t w i ≡ true
@@ -43,11 +43,11 @@ rising_from m j (a ∷ []) = false
 rising_from m j (a ∷ (b ∷ l)) = (ltb m (number_of a) || (eqb m (number_of a) && ltb j (number_of b))) && rising_from (number_of a) (number_of b) l
 
 pub record Laws : Type 0 where
-  pub accepted : (t w : List ℤ) (room count : ℕ) → check_of t w room ≡ Accepted count → Accepts t w room count
+  pub accepted : (t w : List ℤ) (room count : ℕ) → check_of t w room ≡ Ok count → Accepts t w room count
   -- and back: all rules, and room for the list, are enough
-  pub accepts-back : (t w : List ℤ) (room count : ℕ) → Accepts t w room count → check_of t w room ≡ Accepted count
+  pub accepts-back : (t w : List ℤ) (room count : ℕ) → Accepts t w room count → check_of t w room ≡ Ok count
   -- a 17 has the true number of words as its place, and the buffer is shorter
-  pub room-needed : (t w : List ℤ) (room place : ℕ) → check_of t w room ≡ Refused 17 place → (place ≡ length (alarm_words t w)) × (room < place)
+  pub room-needed : (t w : List ℤ) (room place : ℕ) → check_of t w room ≡ broken Room place → (place ≡ length (alarm_words t w)) × (room < place)
   -- a pair is on the list exactly when some reached point's evaluation calls it possible
   pub list-raised : (t w : List ℤ) (n k : ℕ) → n < (sizes_of t).nodes → IsKind k → on_list n k (alarm_words t w) ≡ raised t w n k
   pub list-below : (t w : List ℤ) (n k : ℕ) → on_list n k (alarm_words t w) ≡ true → (n < (sizes_of t).nodes) × IsKind k

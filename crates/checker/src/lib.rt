@@ -7,13 +7,6 @@ mod list;
 ghost use Rattle.checker.specs.Laws.{Laws};
 ghost use Rattle.checker.specs.Examples.{Starred};
 
-// Accepted with the number of alarms, or the first broken rule with its smallest place.
-#[derive(Clone, Copy)]
-pub enum Verdict {
-    Accepted(usize),
-    Refused(u32, usize),
-}
-
 // Does nothing: its contract is every law of the crate and the worked examples, so that none of them can go unproved.
 pub fn laws_hold()
     ensures laws { Laws }

@@ -7,55 +7,48 @@ use mathlib.Core.Bool.{Bool, true, false, ◌&&◌, ◌||◌, and-false, or-true
 use mathlib.Core.Logic.{◌⊎◌, inl, inr, ⊎_elim}
 use lib.IntN.{ℤ, pos, negsuc, neg_ℤ, ◌+ℤ◌, ◌-ℤ◌, ◌*ℤ◌, *ℤ_comm}
 use lib.Signed.{le_z, lt_z, quot_z, rem_z, ◌≤ℤ◌, ◌<ℤ◌, ≤ℤ_refl}
-use Rattle.interval.specs.Integer.{min_z, max_z, min4_z, max4_z}
-use Rattle.interval.specs.Interval.{least, greatest, from_to, Within, Holds}
-use Rattle.interval.specs.Arithmetic.{exact, divides_of, by_zero, is_word, ends, hull_of, corners, below_of, above_of, either_part_of, largest_of, remainders_of, uncut_of, zero_in_of, clamp_of, passes_of, computed_of, nothing_of, negate_of, operate_of}
+use Rattle.interval.specs.Integer.{min4_z, max4_z}
+use Rattle.interval.specs.Interval.{least, greatest, from_to, Within, Holds, span}
+use Rattle.interval.specs.Arithmetic.{exact, divides_of, by_zero, is_word, pair, ends, hull_of, corners, below_of, above_of, either_part_of, largest_of, remainders_of, uncut_of, zero_in_of, clamp_of, passes_of, computed_of, nothing_of, negate_of, operate_of}
 use Rattle.interval.specs.Lattice.{is_none_of, ◌⊑◌}
 use Rattle.interval.specs.Laws.{Wider, ExactEnds, Outside, Divided}
 use Rattle.interval.specs.declared.Interval.{Interval}
-use Rattle.interval.specs.declared.Interval.TheVariants.{Between}
 use Rattle.interval.specs.declared.Operation.{Operation}
 use Rattle.interval.specs.declared.Operation.TheVariants.{Sum, Difference, Product, Quotient, Remainder}
 use Rattle.interval.specs.declared.Computed.{Computed}
 use Rattle.interval.specs.declared.Uncut.{Uncut}
-use Rattle.interval.specs.declared.Uncut.TheVariants.{NoPair, Pair}
-use Rattle.interval.proofs.IntegerLaws.{≤_trans, ≤-total, ≤-antisym, add-mono, sub-mono, neg-anti, mul_mono, mul-anti, quot-mono, quot-anti, OneSign, quot-down, quot-up, min-left, min-right, max-left, max-right, min-above, max-below, min-one, max-one, min-mono, max-mono, min-is, max-is, le_z-cases, le-true, le-false, ≤-<-trans, <-≤-trans, lt-true, le_z-no', lt_z-yes', is_false, clash, and_left, and_right, signs, eq_z-yes, eq_z-true, eq_z-no, eq_z-false, above-not-zero, below-not-zero}
-use Rattle.interval.proofs.IntervalLaws.{first, last, ordered, test-within, widen, Inside, inside, inside-single, on_ends-holds, on_both-holds, on_both-cases, from_to-holds}
+use Rattle.interval.proofs.IntegerLaws.{ints, ≤_trans, ≤-total, ≤-antisym, add-mono, sub-mono, neg-anti, mul_mono, mul-anti, quot-mono, quot-anti, OneSign, quot-down, quot-up, min-left, min-right, max-left, max-right, min-above, max-below, min-one, max-one, min-mono, max-mono, min-is, max-is, le_z-cases, le-true, le-false, ≤-<-trans, <-≤-trans, lt-true, le_z-no', lt_z-yes', is_false, clash, and_left, and_right, signs, eq_z-yes, eq_z-true, eq_z-no, eq_z-false, above-not-zero, below-not-zero}
+use Rattle.interval.proofs.IntervalLaws.{first, last, ordered, test-within, Inside, inside, inside-single, on_ends-holds, on_both-holds, on_both-cases, from_to-holds}
 use Rattle.interval.proofs.LatticeLaws.{none_within, holds-some, within-holds, from_to-mono, on_ends-mono, on_both-mono}
 use Rattle.interval.proofs.RemainderLaws.{rem-toward-zero, rem_below, largest-bounds, largest-mono, only_zero, lowest, highest, ends-hold-zero, ends-hold, lowest-mono, highest-mono, remainders-cases}
+use Rattle.std.specs.Int.{int_min, int_max}
+use Rattle.std.specs.Prelude.{None, Option, Some}
+use Rattle.std.proofs.lemmas.Int.{clamps, to_z-of_z}
 
 -- ---- the numbers of a pair, and what holds of its ends
-abbrev pub In : Uncut → ℤ → Type 0
-In NoPair z = ⊥
-In (Pair lo hi) z = Within lo hi z
+abbrev pub In : Option Uncut → ℤ → Type 0
+In None z = ⊥
+In (Some u) z = Within u.low u.high z
 
-abbrev pub Ends : (ℤ → Type 0) → Uncut → Type 0
-Ends P NoPair = Unit {0}
-Ends P (Pair lo hi) = P lo × P hi
-
--- a pair that holds lo and hi, and whose ends lie from lo to hi
-pair_is : (u : Uncut) (lo hi : ℤ) → In u lo → In u hi → Ends (Within lo hi) u → u ≡ Pair lo hi
-pair_is NoPair lo hi p q e = absurd p
-pair_is (Pair l h) lo hi p q e =
-    let low : l ≡ lo = ≤-antisym p.low e.0.low in
-    let high : h ≡ hi = ≤-antisym e.1.high q.high in
-    cc
+abbrev pub Ends : (ℤ → Type 0) → Option Uncut → Type 0
+Ends P None = Unit {0}
+Ends P (Some u) = P u.low × P u.high
 
 -- ---- z between p and q, whichever is less
 abbrev Amid : ℤ → ℤ → ℤ → Type 0
-Amid p q z = Within (min_z p q) (max_z p q) z
+Amid p q z = Within (int_min p q) (int_max p q) z
 
 rising : {p q z : ℤ} → p ≤ℤ z → z ≤ℤ q → Amid p q z
-rising {p} {q} h k = record { low = ≤_trans (min-left p q) h; high = ≤_trans k (max-right p q) }
+rising h k = record { low = omega (ints, clamps); high = omega (ints, clamps) }
 
 falling : {p q z : ℤ} → q ≤ℤ z → z ≤ℤ p → Amid p q z
-falling {p} {q} h k = record { low = ≤_trans (min-right p q) h; high = ≤_trans k (max-left p q) }
+falling h k = record { low = omega (ints, clamps); high = omega (ints, clamps) }
 
 -- ---- the four corners of an operation
 -- what is amid two that are each amid two
 hull-holds : (p q r s u v z : ℤ) → Amid p q u → Amid r s v → Amid u v z → In (hull_of p q r s) z
 unfolding hull_of min4_z max4_z
-hull-holds p q r s u v z a b c = widen (min-mono a.low b.low) (max-mono a.high b.high) c
+hull-holds p q r s u v z a b c = record { low = omega (ints, clamps); high = omega (ints, clamps) }
 
 -- so it is enough that each operand alone keeps the result amid those at its ends
 corners-contain : (f : ℤ → ℤ → ℤ) (a b c d x y : ℤ) → Amid (f a y) (f b y) (f x y) → ((k : ℤ) → Amid (f k c) (f k d) (f k y)) → In (corners f a b c d) (f x y)
@@ -64,8 +57,8 @@ corners-contain f a b c d x y p q = hull-holds (f a c) (f a d) (f b c) (f b d) (
 hull-attained : (P : ℤ → Type 0) (p q r s : ℤ) → P p → P q → P r → P s → Ends P (hull_of p q r s)
 unfolding hull_of min4_z max4_z
 hull-attained P p q r s hp hq hr hs = (
-  min-one P (min_z p q) (min_z r s) (min-one P p q hp hq) (min-one P r s hr hs),
-  max-one P (max_z p q) (max_z r s) (max-one P p q hp hq) (max-one P r s hr hs),
+  min-one P (int_min p q) (int_min r s) (min-one P p q hp hq) (min-one P r s hr hs),
+  max-one P (int_max p q) (int_max r s) (max-one P p q hp hq) (max-one P r s hr hs),
 )
 
 corners-attained : (P : ℤ → Type 0) (f : ℤ → ℤ → ℤ) {a b c d : ℤ} → a ≤ℤ b → c ≤ℤ d → ((x y : ℤ) → Within a b x → Within c d y → P (f x y)) → Ends P (corners f a b c d)
@@ -108,20 +101,20 @@ part-attained P o h i g = corners-attained P quot_z h i.ordered (λ x y p q. g x
     not-zero y q (inl o) = above-not-zero (≤_trans o q.low)
     not-zero y q (inr o) = below-not-zero (≤_trans q.high o)
 
-either-contains : (u v : Uncut) (z : ℤ) → In u z ⊎ In v z → In (either_part_of u v) z
+either-contains : (u v : Option Uncut) (z : ℤ) → In u z ⊎ In v z → In (either_part_of u v) z
 unfolding either_part_of
-either-contains NoPair v z (inl h) = absurd h
-either-contains NoPair v z (inr h) = h
-either-contains (Pair a b) NoPair z (inl h) = h
-either-contains (Pair a b) NoPair z (inr h) = absurd h
-either-contains (Pair a b) (Pair c d) z (inl h) = widen (min-left a c) (max-left b d) h
-either-contains (Pair a b) (Pair c d) z (inr h) = widen (min-right a c) (max-right b d) h
+either-contains None v z (inl h) = absurd h
+either-contains None v z (inr h) = h
+either-contains (Some u) None z (inl h) = h
+either-contains (Some u) None z (inr h) = absurd h
+either-contains (Some u) (Some v) z (inl h) = record { low = omega (ints, clamps); high = omega (ints, clamps) }
+either-contains (Some u) (Some v) z (inr h) = record { low = omega (ints, clamps); high = omega (ints, clamps) }
 
-either-attained : (P : ℤ → Type 0) (u v : Uncut) → Ends P u → Ends P v → Ends P (either_part_of u v)
+either-attained : (P : ℤ → Type 0) (u v : Option Uncut) → Ends P u → Ends P v → Ends P (either_part_of u v)
 unfolding either_part_of
-either-attained P NoPair v p q = q
-either-attained P (Pair a b) NoPair p q = p
-either-attained P (Pair a b) (Pair c d) p q = (min-one P a c p.0 q.0, max-one P b d p.1 q.1)
+either-attained P None v p q = q
+either-attained P (Some u) None p q = p
+either-attained P (Some u) (Some v) p q = (min-one P u.low v.low p.0 q.0, max-one P u.high v.high p.1 q.1)
 
 -- ---- remainders
 remainders-contain : {a b c d x y : ℤ} → Within a b x → Within c d y → (y ≡ pos 0 → ⊥) → In (remainders_of a b c d) (rem_z x y)
@@ -171,12 +164,12 @@ uncut-attained P Remainder o h k g = absurd o
 uncut-attained P Quotient o {a} {b} {c} {d} h k g = either-attained P (below_of a b c d) (above_of a b c d) below above
   where
     below : Ends P (below_of a b c d)
-    below = le_z-cases (Ends P) c (negsuc 0) (corners quot_z a b c (min_z d (negsuc 0))) NoPair
+    below = le_z-cases (Ends P) c (negsuc 0) (corners quot_z a b c (int_min d (negsuc 0))) None
         (λ l. part-attained P (inr (min-right d (negsuc 0))) h (record { ordered = min-above k l; low = ≤ℤ_refl c; high = min-left d (negsuc 0) }) g)
         (λ _. tt)
 
     above : Ends P (above_of a b c d)
-    above = le_z-cases (Ends P) (pos 1) d (corners quot_z a b (max_z c (pos 1)) d) NoPair
+    above = le_z-cases (Ends P) (pos 1) d (corners quot_z a b (int_max c (pos 1)) d) None
         (λ l. part-attained P (inl (max-right c (pos 1))) h (record { ordered = max-below k l; low = max-left c (pos 1); high = ≤ℤ_refl d }) g)
         (λ _. tt)
 
@@ -200,19 +193,23 @@ negation-attained : (P : ℤ → Type 0) {a b : ℤ} → a ≤ℤ b → ((x : �
 negation-attained P {a} {b} h g = (min-one P (neg_ℤ a) (neg_ℤ b) (g a (first h)) (g b (last h)), max-one P (neg_ℤ a) (neg_ℤ b) (g a (first h)) (g b (last h)))
 
 -- ---- the pairs by name, where the operation keeps or turns the order of each operand
-pub ends-negation : (a b : ℤ) → a ≤ℤ b → ends neg_ℤ a b ≡ Pair (neg_ℤ b) (neg_ℤ a)
-ends-negation a b h = pair_is (ends neg_ℤ a b) (neg_ℤ b) (neg_ℤ a) (negation-contains (last h)) (negation-contains (first h))
-    (negation-attained (Within (neg_ℤ b) (neg_ℤ a)) h (λ x p. record { low = neg-anti p.high; high = neg-anti p.low }))
+same_pair : {l h lo hi : ℤ} → l ≡ lo → h ≡ hi → pair l h ≡ pair lo hi
+same_pair e i = rw (e, i)
 
-pub corners-sum : (a b c d : ℤ) → a ≤ℤ b → c ≤ℤ d → corners ◌+ℤ◌ a b c d ≡ Pair (a +ℤ c) (b +ℤ d)
-unfolding uncut_of
-corners-sum a b c d h k = pair_is (corners ◌+ℤ◌ a b c d) (a +ℤ c) (b +ℤ d) (uncut-contains Sum (first h) (first k) refl) (uncut-contains Sum (last h) (last k) refl)
-    (uncut-attained (Within (a +ℤ c) (b +ℤ d)) Sum tt h k (λ x y p q z. record { low = add-mono p.low q.low; high = add-mono p.high q.high }))
+pub ends-negation : (a b : ℤ) → a ≤ℤ b → ends neg_ℤ a b ≡ pair (neg_ℤ b) (neg_ℤ a)
+ends-negation a b h = same_pair (omega (ints, clamps)) (omega (ints, clamps))
 
-pub corners-difference : (a b c d : ℤ) → a ≤ℤ b → c ≤ℤ d → corners ◌-ℤ◌ a b c d ≡ Pair (a -ℤ d) (b -ℤ c)
-unfolding uncut_of
-corners-difference a b c d h k = pair_is (corners ◌-ℤ◌ a b c d) (a -ℤ d) (b -ℤ c) (uncut-contains Difference (first h) (last k) refl) (uncut-contains Difference (last h) (first k) refl)
-    (uncut-attained (Within (a -ℤ d) (b -ℤ c)) Difference tt h k (λ x y p q z. record { low = sub-mono p.low q.high; high = sub-mono p.high q.low }))
+pub ruleset turned_ends = (to_z-of_z, ends-negation)
+
+pub corners-sum : (a b c d : ℤ) → a ≤ℤ b → c ≤ℤ d → corners ◌+ℤ◌ a b c d ≡ pair (a +ℤ c) (b +ℤ d)
+unfolding hull_of min4_z max4_z
+corners-sum a b c d h k = same_pair (omega (ints, clamps)) (omega (ints, clamps))
+
+pub corners-difference : (a b c d : ℤ) → a ≤ℤ b → c ≤ℤ d → corners ◌-ℤ◌ a b c d ≡ pair (a -ℤ d) (b -ℤ c)
+unfolding hull_of min4_z max4_z
+corners-difference a b c d h k = same_pair (omega (ints, clamps)) (omega (ints, clamps))
+
+pub ruleset two_corners = (to_z-of_z, corners-sum, corners-difference)
 
 -- ---- the cut to words
 pub clamp-is : (lo hi : ℤ) → least ≤ℤ lo → hi ≤ℤ greatest → clamp_of lo hi ≡ from_to lo hi
@@ -249,29 +246,29 @@ pub record Tells (c : Computed) (z : ℤ) : Type 0 where
 pub tells-some : (c : Computed) (z : ℤ) → Tells c z → is_none_of c.range ≡ true → is_word z ≡ false
 tells-some c z p e = is_false (is_word z) (λ w. clash (sym e ∙ holds-some c.range z (p.contains w)))
 
-computed-tells : (u : Uncut) (t : Bool) (z : ℤ) → In u z → Tells (computed_of u t) z
+computed-tells : (u : Option Uncut) (t : Bool) (z : ℤ) → In u z → Tells (computed_of u t) z
 unfolding computed_of
-computed-tells NoPair t z h = absurd h
-computed-tells (Pair lo hi) t z h = record { contains = clamp-holds h; overflow = passes-told h }
+computed-tells None t z h = absurd h
+computed-tells (Some u) t z h = record { contains = clamp-holds h; overflow = passes-told h }
 
-computed-overflow-only : {X : Type 0} (P : ℤ → Type 0) (u : Uncut) (t : Bool) → Ends P u → ((z : ℤ) → P z → is_word z ≡ false → X) → (computed_of u t).overflow ≡ true → X
+computed-overflow-only : {X : Type 0} (P : ℤ → Type 0) (u : Option Uncut) (t : Bool) → Ends P u → ((z : ℤ) → P z → is_word z ≡ false → X) → (computed_of u t).overflow ≡ true → X
 unfolding computed_of
-computed-overflow-only P NoPair t p g e = clash (sym e)
-computed-overflow-only P (Pair lo hi) t p g e = passes-only lo hi (g lo p.0) (g hi p.1) e
+computed-overflow-only P None t p g e = clash (sym e)
+computed-overflow-only P (Some u) t p g e = passes-only u.low u.high (g u.low p.0) (g u.high p.1) e
 
-computed-zero : (u : Uncut) (t : Bool) → (computed_of u t).zero ≡ t
+computed-zero : (u : Option Uncut) (t : Bool) → (computed_of u t).zero ≡ t
 unfolding computed_of
-computed-zero NoPair t = refl
-computed-zero (Pair lo hi) t = refl
+computed-zero None t = refl
+computed-zero (Some u) t = refl
 
 -- a pair whose ends lie in another gives no more than that
-computed-range : (u v : Uncut) (s t : Bool) → Ends (In v) u → (computed_of u s).range ⊑ (computed_of v t).range
+computed-range : (u v : Option Uncut) (s t : Bool) → Ends (In v) u → (computed_of u s).range ⊑ (computed_of v t).range
 unfolding computed_of
-computed-range NoPair v s t p = none_within (computed_of v t).range
-computed-range (Pair lo hi) NoPair s t p = absurd p.0
-computed-range (Pair lo hi) (Pair lo' hi') s t p = from_to-mono (max-mono p.0.low (≤ℤ_refl least)) (min-mono p.1.high (≤ℤ_refl greatest))
+computed-range None v s t p = none_within (computed_of v t).range
+computed-range (Some u) None s t p = absurd p.0
+computed-range (Some u) (Some v) s t p = from_to-mono (max-mono p.0.low (≤ℤ_refl least)) (min-mono p.1.high (≤ℤ_refl greatest))
 
-computed-mono : (u v : Uncut) (s t : Bool) → Ends (In v) u → (s ≡ true → t ≡ true) → Wider (computed_of u s) (computed_of v t)
+computed-mono : (u v : Option Uncut) (s t : Bool) → Ends (In v) u → (s ≡ true → t ≡ true) → Wider (computed_of u s) (computed_of v t)
 computed-mono u v s t p f = record {
   range = computed-range u v s t p;
   overflow = computed-overflow-only (In v) u s p (λ z i. (computed-tells v t z i).overflow);
@@ -282,21 +279,21 @@ nothing-least : (c : Computed) → Wider nothing_of c
 nothing-least c = record { range = none_within c.range; overflow = λ e. clash (sym e); zero = λ e. clash (sym e) }
 
 -- ---- negation
-pub negate-tells : (r : Interval) (x : ℤ) → Holds r x → Tells (negate_of r) (neg_ℤ x)
+pub negate-tells : (r : Option Interval) (x : ℤ) → Holds r x → Tells (negate_of r) (neg_ℤ x)
 unfolding negate_of
 negate-tells r x h = on_ends-holds (λ c. Tells c (neg_ℤ x)) nothing_of _ r x h (λ a b p. computed-tells (ends neg_ℤ a b) false (neg_ℤ x) (negation-contains p))
 
-pub negate-mono : (r r' : Interval) → r ⊑ r' → Wider (negate_of r) (negate_of r')
+pub negate-mono : (r r' : Option Interval) → r ⊑ r' → Wider (negate_of r) (negate_of r')
 unfolding negate_of
 negate-mono r r' h = on_ends-mono Wider nothing_of nothing-least _ _ r r' h (λ a b a' b' i.
     computed-mono (ends neg_ℤ a b) (ends neg_ℤ a' b') false false (negation-attained (In (ends neg_ℤ a' b')) i.ordered (λ x p. negation-contains (inside i p))) (λ e. e))
 
 -- ---- the operations
-pub operate-tells : (op : Operation) (r s : Interval) (x y : ℤ) → Holds r x → Holds s y → by_zero op y ≡ false → Tells (operate_of op r s) (exact op x y)
+pub operate-tells : (op : Operation) (r s : Option Interval) (x y : ℤ) → Holds r x → Holds s y → by_zero op y ≡ false → Tells (operate_of op r s) (exact op x y)
 unfolding operate_of
 operate-tells op r s x y h k z = on_both-holds (λ c. Tells c (exact op x y)) nothing_of _ r s x y h k (λ a b c d p q. computed-tells (uncut_of op a b c d) (zero_in_of op c d) (exact op x y) (uncut-contains op p q z))
 
-pub operate-overflow-only : (op : Operation) → ExactEnds op → (r s : Interval) → (operate_of op r s).overflow ≡ true → Outside op r s
+pub operate-overflow-only : (op : Operation) → ExactEnds op → (r s : Option Interval) → (operate_of op r s).overflow ≡ true → Outside op r s
 unfolding operate_of
 operate-overflow-only op o r s = on_both-cases (λ c. c.overflow ≡ true → Outside op r s) nothing_of _ r s (λ e. clash (sym e)) (λ a b c d h k e i.
     computed-overflow-only (λ z. is_word z ≡ false → Outside op r s) (uncut_of op a b c d) (zero_in_of op c d)
@@ -315,17 +312,17 @@ zero-only op c d z = (test-within c d (pos 0) (and_right (divides_of op) _ z), r
 zero-mono : (op : Operation) {c d c' d' : ℤ} → Inside c d c' d' → zero_in_of op c d ≡ true → zero_in_of op c' d' ≡ true
 zero-mono op {c} {d} i z = let w = zero-only op c d z in zero-told op (inside i w.0) w.1
 
-pub operate-zero : (op : Operation) (r s : Interval) (x y : ℤ) → Holds r x → Holds s y → by_zero op y ≡ true → (operate_of op r s).zero ≡ true
+pub operate-zero : (op : Operation) (r s : Option Interval) (x y : ℤ) → Holds r x → Holds s y → by_zero op y ≡ true → (operate_of op r s).zero ≡ true
 unfolding operate_of
 operate-zero op r s x y h k z = on_both-holds (λ c. c.zero ≡ true) nothing_of _ r s x y h k (λ a b c d p q. computed-zero (uncut_of op a b c d) (zero_in_of op c d) ∙ zero-told op q z)
 
-pub operate-zero-only : (op : Operation) (r s : Interval) → (operate_of op r s).zero ≡ true → Divided op r s
+pub operate-zero-only : (op : Operation) (r s : Option Interval) → (operate_of op r s).zero ≡ true → Divided op r s
 unfolding operate_of
 operate-zero-only op r s = on_both-cases (λ c. c.zero ≡ true → Divided op r s) nothing_of _ r s (λ e. clash (sym e)) (λ a b c d h k e i z.
     let w = zero-only op c d (sym (computed-zero (uncut_of op a b c d) (zero_in_of op c d)) ∙ z) in
     record { x = a; left = rw e (first h); right = rw i w.0; divides = w.1 })
 
-pub operate-mono : (op : Operation) (r r' s s' : Interval) → r ⊑ r' → s ⊑ s' → Wider (operate_of op r s) (operate_of op r' s')
+pub operate-mono : (op : Operation) (r r' s s' : Option Interval) → r ⊑ r' → s ⊑ s' → Wider (operate_of op r s) (operate_of op r' s')
 unfolding operate_of
 operate-mono op r r' s s' h k = on_both-mono Wider nothing_of nothing-least _ r r' s s' h k (λ a b c d a' b' c' d' i j.
     computed-mono (uncut_of op a b c d) (uncut_of op a' b' c' d') (zero_in_of op c d) (zero_in_of op c' d')
@@ -335,18 +332,17 @@ operate-mono op r r' s s' h k = on_both-mono Wider nothing_of nothing-least _ r 
 -- ---- the ends of a remainder of words are words, so it passes neither MIN nor MAX
 remainders-fit : {a b c d : ℤ} → Inside a b least greatest → c ≤ℤ d → Ends (λ z. is_word z ≡ true) (remainders_of a b c d)
 remainders-fit {a} {b} {c} {d} i k = remainders-cases (Ends (λ z. is_word z ≡ true)) a b k (λ _ _. tt) (λ z.
-    let zero = ends-hold-zero a b z in (
-      fits (record { low = ≤_trans (min-above i.low (record { le = tt })) (max-left (min_z a (pos 0)) _); high = ≤_trans zero.low (record { le = tt }) }),
-      fits (record { low = ≤_trans (record { le = tt }) zero.high; high = ≤_trans (min-left (max_z b (pos 0)) _) (max-below i.high (record { le = tt })) }),
-    ))
+    let zero = ends-hold-zero a b z in
+    let most = largest_of c d in
+    (is-word (lowest a most) (omega (ints, clamps)) (omega ints), is-word (highest b most) (omega ints) (omega (ints, clamps))))
   where
-    fits : {z : ℤ} → Within least greatest z → is_word z ≡ true
-    fits p = rw (le-true p.low, le-true p.high)
+    is-word : (z : ℤ) → least ≤ℤ z → z ≤ℤ greatest → is_word z ≡ true
+    is-word z h k = rw (le-true h, le-true k)
 
-pub remainder-no-overflow : (r s : Interval) → r ⊑ Between least greatest → (operate_of Remainder r s).overflow ≡ false
+pub remainder-no-overflow : (r s : Option Interval) → r ⊑ span least greatest → (operate_of Remainder r s).overflow ≡ false
 unfolding operate_of uncut_of
 remainder-no-overflow r s w = on_both-cases (λ c. c.overflow ≡ false) nothing_of _ r s refl (λ a b c d h k e i.
     is_false _ (computed-overflow-only (λ z. is_word z ≡ true) (remainders_of a b c d) (zero_in_of Remainder c d) (remainders-fit (words a b h e) k) (λ z p q. clash (sym p ∙ q))))
   where
-    words : (a b : ℤ) → a ≤ℤ b → r ≡ Between a b → Inside a b least greatest
-    words a b h e = record { ordered = h; low = (within-holds r (Between least greatest) w a (rw e (first h))).low; high = (within-holds r (Between least greatest) w b (rw e (last h))).high }
+    words : (a b : ℤ) → a ≤ℤ b → r ≡ span a b → Inside a b least greatest
+    words a b h e = record { ordered = h; low = (within-holds r (span least greatest) w a (rw e (first h))).low; high = (within-holds r (span least greatest) w b (rw e (last h))).high }

@@ -17,6 +17,7 @@ use Rattle.interval.specs.declared.Comparison.TheVariants.{Less, AtMost, Equal, 
 use Rattle.interval.proofs.IntegerLaws.{≤_trans, ≤-<-trans, <-≤-trans, le-true, lt-true, le_z-yes', le_z-no', lt_z-yes', lt_z-no', and_left, and_right, eq_z-yes, eq_z-true, clash}
 use Rattle.interval.proofs.IntervalLaws.{Inside, single-inside, inside-single, on_both-holds}
 use Rattle.interval.proofs.LatticeLaws.{on_both-mono}
+use Rattle.std.specs.Prelude.{Option}
 
 -- ---- tests that grow
 and_mono : (s t s' t' : Bool) → (s ≡ true → s' ≡ true) → (t ≡ true → t' ≡ true) → s && t ≡ true → s' && t' ≡ true
@@ -144,7 +145,7 @@ module _ {a b c d a' b' c' d' : ℤ} (i : Inside a b a' b') (j : Inside c d c' d
   decide-mono Equal = allows-by _ _ meets-mono differ-mono
   decide-mono NotEqual = allows-by _ _ differ-mono meets-mono
 
-pub compare-mono : (k : Comparison) (r r' s s' : Interval) → r ⊑ r' → s ⊑ s' → Allows (compare_of k r s) (compare_of k r' s')
+pub compare-mono : (k : Comparison) (r r' s s' : Option Interval) → r ⊑ r' → s ⊑ s' → Allows (compare_of k r s) (compare_of k r' s')
 unfolding compare_of
 compare-mono k r r' s s' h l = on_both-mono Allows neither_of neither-least (decide_of k) r r' s s' h l (λ a b c d a' b' c' d' i j. decide-mono i j k)
 
@@ -160,7 +161,7 @@ decide-single Equal x y false e = rw (le-true (≤ℤ_refl x), le-true (≤ℤ_r
 decide-single NotEqual x y true e = rw (le-true (≤ℤ_refl x), le-true (≤ℤ_refl y)) e
 decide-single NotEqual x y false e = not-false (le_z x y && le_z y x) e
 
-pub compare-allows : (k : Comparison) (r s : Interval) (x y : ℤ) → Holds r x → Holds s y → allows (compare_of k r s) (test k x y) ≡ true
+pub compare-allows : (k : Comparison) (r s : Option Interval) (x y : ℤ) → Holds r x → Holds s y → allows (compare_of k r s) (test k x y) ≡ true
 unfolding compare_of
 compare-allows k r s x y h l = on_both-holds (λ d. allows d (test k x y) ≡ true) neither_of (decide_of k) r s x y h l (λ a b c d p q.
     (decide-mono (single-inside p) (single-inside q) k).truth (test k x y) (decide-single k x y (test k x y) refl))

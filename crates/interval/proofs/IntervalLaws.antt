@@ -2,15 +2,15 @@
 -- is taken.
 -- Assumes nothing.
 use Prim.Native.Nat.{ℕ}
-use mathlib.Core.Path.{◌≡◌, refl}
+use mathlib.Core.Path.{◌≡◌, refl, ap, ◌∙◌}
 use mathlib.Core.Bool.{Bool, true, false, cond, ◌&&◌}
 use native.Mathlib.Omega.{arith}
 use lib.IntN.{ℤ}
 use lib.Signed.{le_z, ◌≤ℤ◌, ≤ℤ_refl}
-use Rattle.interval.specs.Interval.{on_ends, on_both, from_to, taken_of, Within, Holds}
+use Rattle.interval.specs.Interval.{on_ends, on_both, from_to, taken_of, Within, Holds, span}
 use Rattle.interval.specs.declared.Interval.{Interval}
-use Rattle.interval.specs.declared.Interval.TheVariants.{None, Between}
-use Rattle.interval.proofs.IntegerLaws.{≤_trans, ≤-antisym, le-true, le_z-yes', le_z-cases, and_left, and_right}
+use Rattle.interval.proofs.IntegerLaws.{ints, ≤_trans, le-true, le_z-yes', le_z-cases, and_left, and_right}
+use Rattle.std.specs.Prelude.{None, Option, Some}
 
 -- ---- the numbers from lo to hi
 pub first : {a b : ℤ} → a ≤ℤ b → Within a b a
@@ -44,56 +44,53 @@ single-inside {x} p = record { ordered = ≤ℤ_refl x; low = p.low; high = p.hi
 
 -- what lies within a single number is that number
 pub inside-single : {a b c d : ℤ} → Inside a b c d → c ≡ d → (a ≡ c) × (b ≡ c)
-inside-single {a} {b} {c} i e =
-    let h : b ≤ℤ c = rw (← e) at i.high in
-    (≤-antisym (≤_trans i.ordered h) i.low, ≤-antisym h (≤_trans i.low i.ordered))
+inside-single i e = (omega ints, omega ints)
 
 -- ---- under `on_ends`
 -- where the interval holds a number
-pub on_ends-holds : {A : Type 0} (P : A → Type 0) (n : A) (f : ℤ → ℤ → A) (r : Interval) (x : ℤ) → Holds r x → ((a b : ℤ) → Within a b x → P (f a b)) → P (on_ends n f r)
+pub on_ends-holds : {A : Type 0} (P : A → Type 0) (n : A) (f : ℤ → ℤ → A) (r : Option Interval) (x : ℤ) → Holds r x → ((a b : ℤ) → Within a b x → P (f a b)) → P (on_ends n f r)
 unfolding on_ends
 on_ends-holds P n f None x h g = absurd h
-on_ends-holds P n f (Between a b) x h g = rw (le-true (ordered h)) (g a b h)
+on_ends-holds P n f (Some e) x h g = rw (le-true (ordered h)) (g e.low e.high h)
 
-pub on_both-holds : {A : Type 0} (P : A → Type 0) (n : A) (f : ℤ → ℤ → ℤ → ℤ → A) (r s : Interval) (x y : ℤ) → Holds r x → Holds s y → ((a b c d : ℤ) → Within a b x → Within c d y → P (f a b c d)) → P (on_both n f r s)
+pub on_both-holds : {A : Type 0} (P : A → Type 0) (n : A) (f : ℤ → ℤ → ℤ → ℤ → A) (r s : Option Interval) (x y : ℤ) → Holds r x → Holds s y → ((a b c d : ℤ) → Within a b x → Within c d y → P (f a b c d)) → P (on_both n f r s)
 on_both-holds P n f r s x y h k g = on_ends-holds P n _ r x h (λ a b p. on_ends-holds P n _ s y k (λ c d q. g a b c d p q))
 
 -- by cases: it is none, or has ends in their order
-pub on_ends-cases : {A : Type 0} (P : A → Type 0) (n : A) (f : ℤ → ℤ → A) (r : Interval) → P n → ((a b : ℤ) → a ≤ℤ b → r ≡ Between a b → P (f a b)) → P (on_ends n f r)
+pub on_ends-cases : {A : Type 0} (P : A → Type 0) (n : A) (f : ℤ → ℤ → A) (r : Option Interval) → P n → ((a b : ℤ) → a ≤ℤ b → r ≡ span a b → P (f a b)) → P (on_ends n f r)
 unfolding on_ends
 on_ends-cases P n f None u g = u
-on_ends-cases P n f (Between a b) u g = le_z-cases P a b (f a b) n (λ h. g a b h refl) (λ _. u)
+on_ends-cases P n f (Some e) u g = le_z-cases P e.low e.high (f e.low e.high) n (λ h. g e.low e.high h refl) (λ _. u)
 
-pub on_both-cases : {A : Type 0} (P : A → Type 0) (n : A) (f : ℤ → ℤ → ℤ → ℤ → A) (r s : Interval) → P n → ((a b c d : ℤ) → a ≤ℤ b → c ≤ℤ d → r ≡ Between a b → s ≡ Between c d → P (f a b c d)) → P (on_both n f r s)
+pub on_both-cases : {A : Type 0} (P : A → Type 0) (n : A) (f : ℤ → ℤ → ℤ → ℤ → A) (r s : Option Interval) → P n → ((a b c d : ℤ) → a ≤ℤ b → c ≤ℤ d → r ≡ span a b → s ≡ span c d → P (f a b c d)) → P (on_both n f r s)
 on_both-cases P n f r s u g = on_ends-cases P n _ r u (λ a b h e. on_ends-cases P n _ s u (λ c d k i. g a b c d h k e i))
 
 -- ---- where it is known as it is taken
 -- then it is the same itself, with its ends in their order
-taken_is : (r : Interval) (a b : ℤ) → taken_of r ≡ Between a b → (r ≡ Between a b) × (a ≤ℤ b)
-taken_is r a b = on_ends-cases (λ (s : Interval). s ≡ Between a b → (r ≡ Between a b) × (a ≤ℤ b)) None Between r never same
+taken_is : (r : Option Interval) (a b : ℤ) → taken_of r ≡ span a b → (r ≡ span a b) × (a ≤ℤ b)
+taken_is r a b = on_ends-cases (λ (s : Option Interval). s ≡ span a b → (r ≡ span a b) × (a ≤ℤ b)) None span r never same
   where
-    never : None ≡ Between a b → (r ≡ Between a b) × (a ≤ℤ b)
+    never : None ≡ span a b → (r ≡ span a b) × (a ≤ℤ b)
     never e = let z : ◌≡◌ {A = ℕ} 0 1 = cc in absurd (omega arith)
 
-    same : (c d : ℤ) → c ≤ℤ d → r ≡ Between c d → Between c d ≡ Between a b → (r ≡ Between a b) × (a ≤ℤ b)
+    same : (c d : ℤ) → c ≤ℤ d → r ≡ span c d → span c d ≡ span a b → (r ≡ span a b) × (a ≤ℤ b)
     same c d h e i =
-        let p : c ≡ a = cc in
-        let q : d ≡ b = cc in
-        (cc, rw (p, q) at h)
+        let same : ◌≡◌ {A = Interval} (record { low = c; high = d }) (record { low = a; high = b }) = cc in
+        (e ∙ i, rw (ap (λ (s : Interval). s.low) same, ap (λ (s : Interval). s.high) same) at h)
 
-pub taken-ordered : (r : Interval) (a b : ℤ) → taken_of r ≡ Between a b → a ≤ℤ b
+pub taken-ordered : (r : Option Interval) (a b : ℤ) → taken_of r ≡ span a b → a ≤ℤ b
 taken-ordered r a b e = (taken_is r a b e).1
 
-pub taken-ends : {A : Type 0} (n : A) (f : ℤ → ℤ → A) (r : Interval) (a b : ℤ) → taken_of r ≡ Between a b → on_ends n f r ≡ f a b
+pub taken-ends : {A : Type 0} (n : A) (f : ℤ → ℤ → A) (r : Option Interval) (a b : ℤ) → taken_of r ≡ span a b → on_ends n f r ≡ f a b
 unfolding on_ends
 taken-ends n f r a b e = rw ((taken_is r a b e).0, le-true (taken_is r a b e).1)
 
-pub taken_none : {A : Type 0} (n : A) (f : ℤ → ℤ → A) (r : Interval) → taken_of r ≡ None → on_ends n f r ≡ n
+pub taken_none : {A : Type 0} (n : A) (f : ℤ → ℤ → A) (r : Option Interval) → taken_of r ≡ None → on_ends n f r ≡ n
 unfolding on_ends
 taken_none n f None e = refl
-taken_none n f (Between a b) e = by (le_z a b) e
+taken_none n f (Some s) e = by (le_z s.low s.high) e
   where
-    by : (t : Bool) → cond t (Between a b) None ≡ None → cond t (f a b) n ≡ n
+    by : (t : Bool) → cond t (span s.low s.high) None ≡ None → cond t (f s.low s.high) n ≡ n
     by true e = cc
     by false e = refl
 
@@ -102,4 +99,4 @@ pub from_to-holds : {lo hi z : ℤ} → Within lo hi z → Holds (from_to lo hi)
 from_to-holds p = rw (le-true (ordered p)) p
 
 pub from_to-only : (lo hi z : ℤ) → Holds (from_to lo hi) z → Within lo hi z
-from_to-only lo hi z = le_z-cases (λ r. Holds r z → Within lo hi z) lo hi (Between lo hi) None (λ _ p. p) (λ _ p. absurd p)
+from_to-only lo hi z = le_z-cases (λ r. Holds r z → Within lo hi z) lo hi (span lo hi) None (λ _ p. p) (λ _ p. absurd p)

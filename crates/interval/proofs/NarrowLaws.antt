@@ -7,19 +7,19 @@ use lib.IntN.{ℤ, pos, ◌+ℤ◌, ◌-ℤ◌}
 use lib.Signed.{le_z, ◌≤ℤ◌, ≤ℤ_refl}
 use borrow.Author.Tests.{not-true, not-false}
 use Rattle.interval.specs.Integer.{eq_z}
-use Rattle.interval.specs.Interval.{Holds}
+use Rattle.interval.specs.Interval.{Holds, span}
 use Rattle.interval.specs.Lattice.{◌⊑◌, meet_of}
 use Rattle.interval.specs.Compare.{test}
 use Rattle.interval.specs.Narrow.{no_cuts_of, kept_of, swapped_of, low_past_of, high_past_of, without_of, cuts_at, cuts_for_of, cuts_of}
 use Rattle.interval.specs.Laws.{CutsWithin}
 use Rattle.interval.specs.declared.Interval.{Interval}
-use Rattle.interval.specs.declared.Interval.TheVariants.{Between}
 use Rattle.interval.specs.declared.Cuts.{Cuts}
 use Rattle.interval.specs.declared.Comparison.{Comparison}
 use Rattle.interval.specs.declared.Comparison.TheVariants.{Less, AtMost, Equal, NotEqual}
 use Rattle.interval.proofs.IntegerLaws.{≤_trans, add-mono, sub-mono, suc-above, pred-below, suc-low, pred-high, past-low, le-true, lt-true, le_z-yes', le_z-no', lt_z-yes', lt_z-no', min-left, min-right, max-left, max-right, min-above, max-below, min-mono, max-mono, and_left, and_right, eq_z-yes, eq_z-no}
 use Rattle.interval.proofs.IntervalLaws.{first, last, Inside, inside, single-inside, inside-single, on_both-holds, on_both-cases, from_to-holds}
 use Rattle.interval.proofs.LatticeLaws.{none_within, within-holds, holds-within, on_both-mono, from_to-inside, from_to-mono, Ordered, meet-absorbs}
+use Rattle.std.specs.Prelude.{Option}
 
 -- ---- two cuts
 -- x and y each lie in their side
@@ -27,7 +27,7 @@ pub record Keeps (u : Cuts) (x y : ℤ) : Type 0 where
   pub left : Holds u.left x
   pub right : Holds u.right y
 
-abbrev cuts : Interval → Interval → Cuts
+abbrev cuts : Option Interval → Option Interval → Cuts
 cuts r s = record { left = r; right = s }
 
 no-cuts-least : (u : Cuts) → CutsWithin no_cuts_of u
@@ -43,18 +43,18 @@ wider-keeps : {u v : Cuts} {x y : ℤ} → CutsWithin u v → Keeps u x y → Ke
 wider-keeps {u} {v} {x} {y} w p = record { left = within-holds u.left v.left w.left x p.left; right = within-holds u.right v.right w.right y p.right }
 
 -- ---- what is kept where both sides hold a number
-kept-keeps : (r s : Interval) (x y : ℤ) → Holds r x → Holds s y → Keeps (kept_of r s) x y
+kept-keeps : (r s : Option Interval) (x y : ℤ) → Holds r x → Holds s y → Keeps (kept_of r s) x y
 unfolding kept_of
 kept-keeps r s x y h k = on_both-holds (λ u. Keeps u x y) no_cuts_of _ r s x y h k (λ a b c d p q. record { left = p; right = q })
 
-kept-within : (r s r' s' : Interval) → r ⊑ r' → s ⊑ s' → CutsWithin (kept_of r s) (cuts r' s')
+kept-within : (r s r' s' : Option Interval) → r ⊑ r' → s ⊑ s' → CutsWithin (kept_of r s) (cuts r' s')
 unfolding kept_of
 kept-within r s r' s' h k = on_both-cases (λ u. CutsWithin u (cuts r' s')) no_cuts_of _ r s (no-cuts-least (cuts r' s')) (λ a b c d _ _ e i. record { left = rw e at h; right = rw i at k })
 
-kept-mono : (r s r' s' : Interval) → r ⊑ r' → s ⊑ s' → CutsWithin (kept_of r s) (kept_of r' s')
+kept-mono : (r s r' s' : Option Interval) → r ⊑ r' → s ⊑ s' → CutsWithin (kept_of r s) (kept_of r' s')
 unfolding kept_of
 kept-mono r s r' s' h k = on_both-mono CutsWithin no_cuts_of no-cuts-least _ r r' s s' h k (λ a b c d a' b' c' d' i j.
-    record { left = holds-within (Between a b) (Between a' b') (λ z. inside i); right = holds-within (Between c d) (Between c' d') (λ z. inside j) })
+    record { left = holds-within (span a b) (span a' b') (λ z. inside i); right = holds-within (span c d) (span c' d') (λ z. inside j) })
 
 -- ---- the ends past the other side's single value
 past_cases : (P : ℤ → Type 0) (a m c d : ℤ) → (c ≡ d → a ≡ c → P m) → ((c ≡ d → a ≡ c → ⊥) → P a) → P (cond (eq_z c d && eq_z a c) m a)
@@ -110,19 +110,19 @@ for-mono AtMost false i j = swapped-within (at-mono Less j i)
 for-mono Equal false i j = at-mono NotEqual i j
 for-mono NotEqual false i j = at-mono Equal i j
 
-pub cuts-mono : (k : Comparison) (w : Bool) (r r' s s' : Interval) → r ⊑ r' → s ⊑ s' → CutsWithin (cuts_of k w r s) (cuts_of k w r' s')
+pub cuts-mono : (k : Comparison) (w : Bool) (r r' s s' : Option Interval) → r ⊑ r' → s ⊑ s' → CutsWithin (cuts_of k w r s) (cuts_of k w r' s')
 unfolding cuts_of
 cuts-mono k w r r' s s' h l = on_both-mono CutsWithin no_cuts_of no-cuts-least (cuts_for_of k w) r r' s s' h l (λ a b c d a' b' c' d' i j. for-mono k w i j)
 
 -- ---- and lie within those ends
-at-within : (k : Comparison) (a b c d : ℤ) → CutsWithin (cuts_at k a b c d) (cuts (Between a b) (Between c d))
+at-within : (k : Comparison) (a b c d : ℤ) → CutsWithin (cuts_at k a b c d) (cuts (span a b) (span c d))
 unfolding cuts_at without_of
 at-within Less a b c d = kept-within _ _ _ _ (from_to-inside (≤ℤ_refl a) (min-left b (d -ℤ pos 1))) (from_to-inside (max-left c (a +ℤ pos 1)) (≤ℤ_refl d))
 at-within AtMost a b c d = kept-within _ _ _ _ (from_to-inside (≤ℤ_refl a) (min-left b d)) (from_to-inside (max-left c a) (≤ℤ_refl d))
 at-within Equal a b c d = kept-within _ _ _ _ (from_to-inside (max-left a c) (min-left b d)) (from_to-inside (max-right a c) (min-right b d))
 at-within NotEqual a b c d = kept-within _ _ _ _ (from_to-inside (low-above a c d) (high-below b c d)) (from_to-inside (low-above c a b) (high-below d a b))
 
-for-within : (k : Comparison) (w : Bool) (a b c d : ℤ) → CutsWithin (cuts_for_of k w a b c d) (cuts (Between a b) (Between c d))
+for-within : (k : Comparison) (w : Bool) (a b c d : ℤ) → CutsWithin (cuts_for_of k w a b c d) (cuts (span a b) (span c d))
 unfolding cuts_for_of
 for-within k true a b c d = at-within k a b c d
 for-within Less false a b c d = swapped-within (at-within AtMost c d a b)
@@ -130,7 +130,7 @@ for-within AtMost false a b c d = swapped-within (at-within Less c d a b)
 for-within Equal false a b c d = at-within NotEqual a b c d
 for-within NotEqual false a b c d = at-within Equal a b c d
 
-pub cuts-within : (k : Comparison) (w : Bool) (r s : Interval) → CutsWithin (cuts_of k w r s) (cuts r s)
+pub cuts-within : (k : Comparison) (w : Bool) (r s : Option Interval) → CutsWithin (cuts_of k w r s) (cuts r s)
 unfolding cuts_of
 cuts-within k w r s = on_both-cases (λ u. CutsWithin u (cuts r s)) no_cuts_of (cuts_for_of k w) r s (no-cuts-least (cuts r s)) (λ a b c d _ _ e i. rw (e, i) (for-within k w a b c d))
 
@@ -145,7 +145,7 @@ no-cuts-ordered = record { left = tt; right = tt }
 swapped-ordered : {u : Cuts} → CutsOrdered u → CutsOrdered (swapped_of u)
 swapped-ordered p = record { left = p.right; right = p.left }
 
-kept-ordered : (r s : Interval) → CutsOrdered (kept_of r s)
+kept-ordered : (r s : Option Interval) → CutsOrdered (kept_of r s)
 unfolding kept_of
 kept-ordered r s = on_both-cases CutsOrdered no_cuts_of _ r s no-cuts-ordered (λ a b c d h k _ _. record { left = h; right = k })
 
@@ -164,13 +164,13 @@ for-ordered AtMost false a b c d = swapped-ordered (at-ordered Less c d a b)
 for-ordered Equal false a b c d = at-ordered NotEqual a b c d
 for-ordered NotEqual false a b c d = at-ordered Equal a b c d
 
-cuts-ordered : (k : Comparison) (w : Bool) (r s : Interval) → CutsOrdered (cuts_of k w r s)
+cuts-ordered : (k : Comparison) (w : Bool) (r s : Option Interval) → CutsOrdered (cuts_of k w r s)
 unfolding cuts_of
 cuts-ordered k w r s = on_both-cases CutsOrdered no_cuts_of (cuts_for_of k w) r s no-cuts-ordered (λ a b c d _ _ _ _. for-ordered k w a b c d)
 
 -- so that meeting them with what was cut changes nothing
 pub cuts-met :
-    (k : Comparison) (w : Bool) (r s : Interval)
+    (k : Comparison) (w : Bool) (r s : Option Interval)
     → (meet_of r (cuts_of k w r s).left ≡ (cuts_of k w r s).left) × (meet_of s (cuts_of k w r s).right ≡ (cuts_of k w r s).right)
 cuts-met k w r s =
     let o = cuts-ordered k w r s in
@@ -212,7 +212,7 @@ for-keeps Equal false x y e = at-keeps NotEqual x y (rw e)
 for-keeps NotEqual false x y e = at-keeps Equal x y (not-false (eq_z x y) e)
 
 -- wider cuts keep them too
-pub cuts-keep : (k : Comparison) (r s : Interval) (x y : ℤ) → Holds r x → Holds s y → Keeps (cuts_of k (test k x y) r s) x y
+pub cuts-keep : (k : Comparison) (r s : Option Interval) (x y : ℤ) → Holds r x → Holds s y → Keeps (cuts_of k (test k x y) r s) x y
 unfolding cuts_of
 cuts-keep k r s x y h l = on_both-holds (λ u. Keeps u x y) no_cuts_of (cuts_for_of k (test k x y)) r s x y h l (λ a b c d p q.
     wider-keeps (for-mono k (test k x y) (single-inside p) (single-inside q)) (for-keeps k (test k x y) x y refl))

@@ -1,6 +1,6 @@
 -- Decisions: which of true and false are possible for a comparison of intervals, and for both, either and not (document 01, 'Intervals').
 -- Assumes nothing.
-use Rattle.std.specs.Prelude.{Bool, true, false, cond, not, ◌&&◌, ◌||◌, ℤ}
+use Rattle.std.specs.Prelude.{Bool, true, false, cond, not, ◌&&◌, ◌||◌, ℤ, Option}
 use Rattle.std.specs.Int.Signed.{le_z, lt_z}
 use Rattle.interval.specs.Integer.{eq_z}
 use Rattle.interval.specs.Interval.{on_both}
@@ -62,5 +62,5 @@ decide_of AtMost a b c d = decision (le_z a d) (lt_z c b)
 decide_of Equal a b c d = decision (meets_of a b c d) (not (same_single_of a b c d))
 decide_of NotEqual a b c d = decision (not (same_single_of a b c d)) (meets_of a b c d)
 
-unfoldable pub compare_of : Comparison → Interval → Interval → Decision
+unfoldable pub compare_of : Comparison → Option Interval → Option Interval → Decision
 compare_of k r s = on_both neither_of (decide_of k) r s

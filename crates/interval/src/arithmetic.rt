@@ -1,25 +1,25 @@
 // Negation, sum, difference, product, quotient and remainder of intervals: exact in 64 bits, then cut to words.
-ghost use Rattle.std.specs.Prelude.{◌≡◌, pos, ◌-ℤ◌, ◌≤ℤ◌};
+ghost use Rattle.std.specs.Prelude.{◌≡◌, pos, ◌-ℤ◌, ◌≤ℤ◌, ◌*ℤ◌, Some};
 ghost use Rattle.std.specs.Int.Signed.{quot_z};
 ghost use Rattle.interval.specs.Arithmetic.{divides_of, corners, hull_of, below_of, above_of, either_part_of, magnitude, largest_of, remainder_low_of, remainder_high_of, remainders_of, uncut_of, zero_in_of, clamp_of, passes_of, computed_of, nothing_of, negate_of, operate_of};
-ghost use Rattle.interval.specs.declared.Operation.TheVariants.{Sum, Difference, Product, Quotient, Remainder};
 
-use crate::integer::{
-    max4, max32, max64, min4, min32, min64, minus, negative, over, plus, same, times, widen,
-};
+use crate::integer::{minus, negative, over, plus, times};
 use crate::lattice::taken;
 use crate::{Computed, Interval, Operation, Uncut};
 
 // The words from lo to hi.
-pub fn clamp(lo: i64, hi: i64) -> Interval
+pub fn clamp(lo: i64, hi: i64) -> Option<Interval>
     ensures { result ≡ clamp_of lo hi }
 {
-    let l = max64(lo, -2147483648);
-    let h = min64(hi, 2147483647);
-    if l <= h {
-        Interval::Between(l as i32, h as i32)
+    let low = lo.max(-2147483648);
+    let high = hi.min(2147483647);
+    if low <= high {
+        Some(Interval {
+            low: low as i32,
+            high: high as i32,
+        })
     } else {
-        Interval::None
+        None
     }
 }
 
@@ -30,19 +30,20 @@ fn passes(lo: i64, hi: i64) -> bool
     (lo < -2147483648) | (2147483647 < hi)
 }
 
-fn computed(u: Uncut, zero: bool) -> Computed
+#[tactic(auto, unfolding(crate::specs::Arithmetic::computed_of))]
+fn computed(u: Option<Uncut>, zero: bool) -> Computed
     ensures { result ≡ computed_of u zero }
 {
     match u {
-        Uncut::NoPair => Computed {
-            range: Interval::None,
+        None => Computed {
+            range: None,
             overflow: false,
-            zero: zero,
+            zero,
         },
-        Uncut::Pair(lo, hi) => Computed {
-            range: clamp(lo, hi),
-            overflow: passes(lo, hi),
-            zero: zero,
+        Some(u) => Computed {
+            range: clamp(u.low, u.high),
+            overflow: passes(u.low, u.high),
+            zero,
         },
     }
 }
@@ -51,7 +52,7 @@ fn nothing() -> Computed
     ensures { result ≡ nothing_of }
 {
     Computed {
-        range: Interval::None,
+        range: None,
         overflow: false,
         zero: false,
     }
@@ -59,50 +60,72 @@ fn nothing() -> Computed
 
 // The least and the greatest of four results.
 fn hull(p: i64, q: i64, r: i64, s: i64) -> Uncut
-    ensures { result ≡ hull_of p q r s }
+    ensures { Some result ≡ hull_of p q r s }
 {
-    Uncut::Pair(min4(p, q, r, s), max4(p, q, r, s))
+    Uncut {
+        low: p.min(q).min(r.min(s)),
+        high: p.max(q).max(r.max(s)),
+    }
 }
 
 // The quotients at the ends.
-fn quotients(a: i32, b: i32, c: i32, d: i32) -> Uncut
-    ensures { result ≡ corners quot_z a b c d }
+fn quotients(x: Interval, y: Interval) -> Uncut
+    ensures { Some result ≡ corners quot_z x.low x.high y.low y.high }
 {
-    hull(over(a, c), over(a, d), over(b, c), over(b, d))
+    hull(
+        over(x.low, y.low),
+        over(x.low, y.high),
+        over(x.high, y.low),
+        over(x.high, y.high),
+    )
 }
 
 // The quotients by the divisors below 0.
-fn below(a: i32, b: i32, c: i32, d: i32) -> Uncut
-    ensures { result ≡ below_of a b c d }
+#[tactic(auto, unfolding(crate::specs::Arithmetic::below_of))]
+fn below(x: Interval, y: Interval) -> Option<Uncut>
+    ensures { result ≡ below_of x.low x.high y.low y.high }
 {
-    if c <= -1 {
-        quotients(a, b, c, min32(d, -1))
+    if y.low <= -1 {
+        let part = Interval {
+            low: y.low,
+            high: y.high.min(-1),
+        };
+        Some(quotients(x, part))
     } else {
-        Uncut::NoPair
+        None
     }
 }
 
 // The quotients by the divisors above 0.
-fn above(a: i32, b: i32, c: i32, d: i32) -> Uncut
-    ensures { result ≡ above_of a b c d }
+#[tactic(auto, unfolding(crate::specs::Arithmetic::above_of))]
+fn above(x: Interval, y: Interval) -> Option<Uncut>
+    ensures { result ≡ above_of x.low x.high y.low y.high }
 {
-    if 1 <= d {
-        quotients(a, b, max32(c, 1), d)
+    if 1 <= y.high {
+        let part = Interval {
+            low: y.low.max(1),
+            high: y.high,
+        };
+        Some(quotients(x, part))
     } else {
-        Uncut::NoPair
+        None
     }
 }
 
-fn either_part(u: Uncut, v: Uncut) -> Uncut
+#[tactic(auto, unfolding(crate::specs::Arithmetic::either_part_of))]
+fn either_part(u: Option<Uncut>, v: Option<Uncut>) -> Option<Uncut>
     ensures { result ≡ either_part_of u v }
 {
-    match u {
-        Uncut::NoPair => v,
-        Uncut::Pair(a, b) => match v {
-            Uncut::NoPair => u,
-            Uncut::Pair(c, d) => Uncut::Pair(min64(a, c), max64(b, d)),
-        },
-    }
+    let Some(a) = u else {
+        return v;
+    };
+    let Some(b) = v else {
+        return u;
+    };
+    Some(Uncut {
+        low: a.low.min(b.low),
+        high: a.high.max(b.high),
+    })
 }
 
 // The magnitude of z, less 1, which is a word also for MIN.
@@ -112,129 +135,123 @@ fn one_less(z: i32) -> i32
     if z < 0 { -1 - z } else { z - 1 }
 }
 
-// The greatest magnitude of the divisors c..d, less 1: no remainder has a greater one.
-fn largest(c: i32, d: i32) -> i32
-    ensures { result ≡ largest_of c d }
+// The greatest magnitude of the divisors, less 1: no remainder has a greater one.
+#[tactic(auto, using(crate::proofs::RemainderLaws::largest_ends))]
+fn largest(y: Interval) -> i32
+    ensures { result ≡ largest_of y.low y.high }
 {
-    max32(one_less(c), one_less(d))
+    one_less(y.low).max(one_less(y.high))
 }
 
+#[tactic(auto, unfolding(crate::specs::Arithmetic::remainder_low_of))]
 fn remainder_low(a: i32, most: i32) -> i64
     ensures { result ≡ remainder_low_of a most }
 {
     if a < 0 {
-        max64(widen(a), negative(most))
+        i64::from(a).max(negative(most))
     } else {
         0
     }
 }
 
+#[tactic(auto, unfolding(crate::specs::Arithmetic::remainder_high_of))]
 fn remainder_high(b: i32, most: i32) -> i64
     ensures { result ≡ remainder_high_of b most }
 {
     if 0 < b {
-        min64(widen(b), widen(most))
+        i64::from(b).min(i64::from(most))
     } else {
         0
     }
 }
 
-// Bounds of the remainders by c..d; none where that is only 0.
-fn remainders(a: i32, b: i32, c: i32, d: i32) -> Uncut
-    ensures { result ≡ remainders_of a b c d }
+// Bounds of the remainders of x by y; none where y is only 0.
+#[tactic(auto, unfolding(crate::specs::Arithmetic::remainders_of, crate::specs::Integer::eq_z))]
+fn remainders(x: Interval, y: Interval) -> Option<Uncut>
+    ensures { result ≡ remainders_of x.low x.high y.low y.high }
 {
-    if same(c, 0) & same(d, 0) {
-        return Uncut::NoPair;
+    if (y.low == 0) & (y.high == 0) {
+        return None;
     }
-    let most = largest(c, d);
-    Uncut::Pair(remainder_low(a, most), remainder_high(b, most))
+    let most = largest(y);
+    Some(Uncut {
+        low: remainder_low(x.low, most),
+        high: remainder_high(x.high, most),
+    })
 }
 
-// The uncut pair of a..b and c..d. A sum and a difference need two of the four corners.
-fn uncut(op: Operation, a: i32, b: i32, c: i32, d: i32) -> Uncut
-    requires a_le_b { a ≤ℤ b }
-    requires c_le_d { c ≤ℤ d }
-    ensures { result ≡ uncut_of op a b c d }
+// The product's hull has four corners; a sum and a difference need two of them.
+fn products(x: Interval, y: Interval) -> Uncut
+    ensures { Some result ≡ corners ◌*ℤ◌ x.low x.high y.low y.high }
+{
+    hull(
+        times(x.low, y.low),
+        times(x.low, y.high),
+        times(x.high, y.low),
+        times(x.high, y.high),
+    )
+}
+
+// The uncut results of x and y.
+#[tactic(auto, using(crate::proofs::ArithmeticLaws::two_corners), unfolding(crate::specs::Arithmetic::uncut_of))]
+fn uncut(op: Operation, x: Interval, y: Interval) -> Option<Uncut>
+    requires left { x.low ≤ℤ x.high }
+    requires right { y.low ≤ℤ y.high }
+    ensures { result ≡ uncut_of op x.low x.high y.low y.high }
 {
     match op {
-        Operation::Sum => Uncut::Pair(plus(a, c), plus(b, d)),
-        Operation::Difference => Uncut::Pair(minus(a, d), minus(b, c)),
-        Operation::Product => hull(times(a, c), times(a, d), times(b, c), times(b, d)),
-        Operation::Quotient => either_part(below(a, b, c, d), above(a, b, c, d)),
-        Operation::Remainder => remainders(a, b, c, d),
+        Operation::Sum => Some(Uncut {
+            low: plus(x.low, y.low),
+            high: plus(x.high, y.high),
+        }),
+        Operation::Difference => Some(Uncut {
+            low: minus(x.low, y.high),
+            high: minus(x.high, y.low),
+        }),
+        Operation::Product => Some(products(x, y)),
+        Operation::Quotient => either_part(below(x, y), above(x, y)),
+        Operation::Remainder => remainders(x, y),
     }
 }
 
 fn divides(op: Operation) -> bool
     ensures { result ≡ divides_of op }
 {
-    match op {
-        Operation::Sum => false,
-        Operation::Difference => false,
-        Operation::Product => false,
-        Operation::Quotient => true,
-        Operation::Remainder => true,
-    }
+    matches!(op, Operation::Quotient | Operation::Remainder)
 }
 
-// Whether the operation can divide by zero, its right operand being c..d.
-fn zero_in(op: Operation, c: i32, d: i32) -> bool
-    ensures { result ≡ zero_in_of op c d }
+// Whether the operation can divide by zero, its right operand being y.
+fn zero_in(op: Operation, y: Interval) -> bool
+    ensures { result ≡ zero_in_of op y.low y.high }
 {
-    divides(op) & ((c <= 0) & (0 <= d))
+    divides(op) & ((y.low <= 0) & (0 <= y.high))
 }
 
 // The negation of x. None gives none and no alarm.
-pub fn negate(x: Interval) -> Computed
+#[tactic(auto, using(crate::proofs::ArithmeticLaws::turned_ends), unfolding(crate::specs::Arithmetic::negate_of, crate::specs::Interval::on_ends))]
+pub fn negate(x: Option<Interval>) -> Computed
     ensures { result ≡ negate_of x }
 {
-    let Interval::Between(a, b) = taken(x) else {
+    let Some(x) = taken(x) else {
         return nothing();
     };
-    computed(Uncut::Pair(negative(b), negative(a)), false)
+    let negated = Uncut {
+        low: negative(x.high),
+        high: negative(x.low),
+    };
+    computed(Some(negated), false)
 }
 
-// The operation on x and y. None on a side gives none and no alarm.
-pub fn operate(op: Operation, x: Interval, y: Interval) -> Computed
+// The operation on x and y. None on a side gives none and no alarm. A quotient is cut towards zero, and a remainder has the dividend's sign.
+#[tactic(auto, unfolding(crate::specs::Arithmetic::operate_of, crate::specs::Interval::on_ends))]
+pub fn operate(op: Operation, x: Option<Interval>, y: Option<Interval>) -> Computed
     ensures { result ≡ operate_of op x y }
 {
-    let Interval::Between(a, b) = taken(x) else {
+    let Some(x) = taken(x) else {
         return nothing();
     };
-    let Interval::Between(c, d) = taken(y) else {
+    let Some(y) = taken(y) else {
         return nothing();
     };
-    computed(uncut(op, a, b, c, d), zero_in(op, c, d))
-}
-
-pub fn sum(x: Interval, y: Interval) -> Computed
-    ensures { result ≡ operate_of Sum x y }
-{
-    operate(Operation::Sum, x, y)
-}
-
-pub fn difference(x: Interval, y: Interval) -> Computed
-    ensures { result ≡ operate_of Difference x y }
-{
-    operate(Operation::Difference, x, y)
-}
-
-pub fn product(x: Interval, y: Interval) -> Computed
-    ensures { result ≡ operate_of Product x y }
-{
-    operate(Operation::Product, x, y)
-}
-
-// Cut towards zero.
-pub fn quotient(x: Interval, y: Interval) -> Computed
-    ensures { result ≡ operate_of Quotient x y }
-{
-    operate(Operation::Quotient, x, y)
-}
-
-// With the dividend's sign.
-pub fn remainder(x: Interval, y: Interval) -> Computed
-    ensures { result ≡ operate_of Remainder x y }
-{
-    operate(Operation::Remainder, x, y)
+    computed(uncut(op, x, y), zero_in(op, y))
 }

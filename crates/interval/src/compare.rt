@@ -1,9 +1,7 @@
 // Decisions: which of true and false are possible.
 ghost use Rattle.std.specs.Prelude.{◌≡◌};
 ghost use Rattle.interval.specs.Compare.{neither_of, meets_of, same_single_of, decide_of, compare_of, both_of, either_of, opposite_of};
-ghost use Rattle.interval.specs.declared.Comparison.TheVariants.{Less, AtMost, Equal, NotEqual};
 
-use crate::integer::same;
 use crate::lattice::taken;
 use crate::{Comparison, Decision, Interval};
 
@@ -16,81 +14,61 @@ fn neither() -> Decision
     }
 }
 
-// Whether a..b and c..d have a number in common.
-fn meets(a: i32, b: i32, c: i32, d: i32) -> bool
-    ensures { result ≡ meets_of a b c d }
+// Whether x and y have a number in common.
+fn meets(x: Interval, y: Interval) -> bool
+    ensures { result ≡ meets_of x.low x.high y.low y.high }
 {
-    (a <= d) & (c <= b)
+    (x.low <= y.high) & (y.low <= x.high)
 }
 
-// Whether a..b and c..d are the same single value.
-fn same_single(a: i32, b: i32, c: i32, d: i32) -> bool
-    ensures { result ≡ same_single_of a b c d }
+// Whether x and y are the same single value.
+#[tactic(auto, unfolding(crate::specs::Integer::eq_z))]
+fn same_single(x: Interval, y: Interval) -> bool
+    ensures { result ≡ same_single_of x.low x.high y.low y.high }
 {
-    same(a, b) & (same(c, d) & same(a, c))
+    (x.low == x.high) & ((y.low == y.high) & (x.low == y.low))
 }
 
-fn decide(k: Comparison, a: i32, b: i32, c: i32, d: i32) -> Decision
-    ensures { result ≡ decide_of k a b c d }
+#[tactic(auto, unfolding(crate::specs::Compare::decide_of))]
+fn decide(k: Comparison, x: Interval, y: Interval) -> Decision
+    ensures { result ≡ decide_of k x.low x.high y.low y.high }
 {
     match k {
         Comparison::Less => Decision {
-            yes: a < d,
-            no: c <= b,
+            yes: x.low < y.high,
+            no: y.low <= x.high,
         },
         Comparison::AtMost => Decision {
-            yes: a <= d,
-            no: c < b,
+            yes: x.low <= y.high,
+            no: y.low < x.high,
         },
         Comparison::Equal => Decision {
-            yes: meets(a, b, c, d),
-            no: !same_single(a, b, c, d),
+            yes: meets(x, y),
+            no: !same_single(x, y),
         },
         Comparison::NotEqual => Decision {
-            yes: !same_single(a, b, c, d),
-            no: meets(a, b, c, d),
+            yes: !same_single(x, y),
+            no: meets(x, y),
         },
     }
 }
 
 // The comparison of a number of x with one of y. None on a side gives neither.
-pub fn compare(k: Comparison, x: Interval, y: Interval) -> Decision
+#[tactic(auto, unfolding(crate::specs::Compare::compare_of, crate::specs::Interval::on_ends))]
+pub fn compare(k: Comparison, x: Option<Interval>, y: Option<Interval>) -> Decision
     ensures { result ≡ compare_of k x y }
 {
-    let Interval::Between(a, b) = taken(x) else {
+    let Some(x) = taken(x) else {
         return neither();
     };
-    let Interval::Between(c, d) = taken(y) else {
+    let Some(y) = taken(y) else {
         return neither();
     };
-    decide(k, a, b, c, d)
-}
-
-pub fn less(x: Interval, y: Interval) -> Decision
-    ensures { result ≡ compare_of Less x y }
-{
-    compare(Comparison::Less, x, y)
-}
-
-pub fn at_most(x: Interval, y: Interval) -> Decision
-    ensures { result ≡ compare_of AtMost x y }
-{
-    compare(Comparison::AtMost, x, y)
-}
-
-pub fn equal(x: Interval, y: Interval) -> Decision
-    ensures { result ≡ compare_of Equal x y }
-{
-    compare(Comparison::Equal, x, y)
-}
-
-pub fn not_equal(x: Interval, y: Interval) -> Decision
-    ensures { result ≡ compare_of NotEqual x y }
-{
-    compare(Comparison::NotEqual, x, y)
+    decide(k, x, y)
 }
 
 // Both conditions. Neither on a side gives neither.
+#[tactic(auto, unfolding(crate::specs::Compare::both_of))]
 pub fn both(d: Decision, e: Decision) -> Decision
     ensures { result ≡ both_of d e }
 {
@@ -105,6 +83,7 @@ pub fn both(d: Decision, e: Decision) -> Decision
 }
 
 // One of the conditions, or both. Neither on a side gives neither.
+#[tactic(auto, unfolding(crate::specs::Compare::either_of))]
 pub fn either(d: Decision, e: Decision) -> Decision
     ensures { result ≡ either_of d e }
 {
@@ -119,6 +98,7 @@ pub fn either(d: Decision, e: Decision) -> Decision
 }
 
 // Not the condition.
+#[tactic(auto, unfolding(crate::specs::Compare::opposite_of))]
 pub fn opposite(d: Decision) -> Decision
     ensures { result ≡ opposite_of d }
 {

@@ -4,73 +4,71 @@ ghost use Rattle.interval.specs.Interval.{from_to, taken_of};
 ghost use Rattle.interval.specs.Lattice.{is_none_of, within_of, meet_of, join_of};
 
 use crate::Interval;
-use crate::integer::{max32, min32};
 
 // The interval from low to high; none where low is above high.
-pub fn between(low: i32, high: i32) -> Interval
+pub fn between(low: i32, high: i32) -> Option<Interval>
     ensures { result ≡ from_to low high }
 {
     if low <= high {
-        Interval::Between(low, high)
+        Some(Interval { low, high })
     } else {
-        Interval::None
+        None
     }
 }
 
 // The interval as every function here takes it: one with its low end above its high end is none.
-pub fn taken(x: Interval) -> Interval
+#[tactic(auto, unfolding(crate::specs::Interval::on_ends))]
+pub fn taken(x: Option<Interval>) -> Option<Interval>
     ensures { result ≡ taken_of x }
 {
-    match x {
-        Interval::None => Interval::None,
-        Interval::Between(a, b) => between(a, b),
-    }
+    let x = x?;
+    between(x.low, x.high)
 }
 
-pub fn is_none(x: Interval) -> bool
+#[tactic(auto, unfolding(crate::specs::Interval::on_ends))]
+pub fn is_none(x: Option<Interval>) -> bool
     ensures { result ≡ is_none_of x }
 {
-    match taken(x) {
-        Interval::None => true,
-        Interval::Between(_, _) => false,
-    }
+    taken(x).is_none()
 }
 
 // Whether x lies within y. None lies within every interval.
-pub fn within(x: Interval, y: Interval) -> bool
+#[tactic(auto, using(crate::proofs::Machine::read_back), unfolding(crate::specs::Lattice::within_of, crate::specs::Interval::on_ends))]
+pub fn within(x: Option<Interval>, y: Option<Interval>) -> bool
     ensures { result ≡ within_of x y }
 {
-    let Interval::Between(a, b) = taken(x) else {
+    let Some(x) = taken(x) else {
         return true;
     };
-    let Interval::Between(c, d) = taken(y) else {
+    let Some(y) = taken(y) else {
         return false;
     };
-    (c <= a) & (b <= d)
+    (y.low <= x.low) & (x.high <= y.high)
 }
 
 // The numbers of both.
-pub fn meet(x: Interval, y: Interval) -> Interval
+#[tactic(auto, unfolding(crate::specs::Lattice::meet_of, crate::specs::Interval::on_ends))]
+pub fn meet(x: Option<Interval>, y: Option<Interval>) -> Option<Interval>
     ensures { result ≡ meet_of x y }
 {
-    let Interval::Between(a, b) = taken(x) else {
-        return Interval::None;
-    };
-    let Interval::Between(c, d) = taken(y) else {
-        return Interval::None;
-    };
-    between(max32(a, c), min32(b, d))
+    let x = taken(x)?;
+    let y = taken(y)?;
+    between(x.low.max(y.low), x.high.min(y.high))
 }
 
 // The least interval that holds both. None adds nothing.
-pub fn join(x: Interval, y: Interval) -> Interval
+#[tactic(auto, unfolding(crate::specs::Lattice::join_of, crate::specs::Interval::on_ends))]
+pub fn join(x: Option<Interval>, y: Option<Interval>) -> Option<Interval>
     ensures { result ≡ join_of x y }
 {
-    let Interval::Between(a, b) = taken(x) else {
+    let Some(x) = taken(x) else {
         return taken(y);
     };
-    let Interval::Between(c, d) = taken(y) else {
-        return Interval::Between(a, b);
+    let Some(y) = taken(y) else {
+        return Some(x);
     };
-    Interval::Between(min32(a, c), max32(b, d))
+    Some(Interval {
+        low: x.low.min(y.low),
+        high: x.high.max(y.high),
+    })
 }

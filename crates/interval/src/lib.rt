@@ -1,5 +1,5 @@
 // Interval arithmetic over words (signed 32-bit numbers): a library of its own, above no other crate.
-// An interval whose low end is above its high end counts as none wherever it is handed in.
+// A result on a row is an interval, or none. An interval whose low end is above its high end counts as none wherever it is handed in.
 #![tactic(auto)]
 
 ghost use Rattle.interval.specs.Laws.{Laws};
@@ -11,15 +11,15 @@ pub mod integer;
 pub mod lattice;
 pub mod narrow;
 
-// The words from the first to the second, or none.
-#[derive(Clone, Copy)]
-pub enum Interval {
-    None,
-    Between(i32, i32),
+// The words from the low end to the high end.
+#[derive(Clone, Copy, Debug, PartialEq, Eq)]
+pub struct Interval {
+    pub low: i32,
+    pub high: i32,
 }
 
 // The operations of two operands.
-#[derive(Clone, Copy)]
+#[derive(Clone, Copy, Debug, PartialEq, Eq)]
 pub enum Operation {
     Sum,
     Difference,
@@ -29,21 +29,21 @@ pub enum Operation {
 }
 
 // What an operation gives: the interval of its results, and whether overflow and a zero divisor are possible.
-#[derive(Clone, Copy)]
+#[derive(Clone, Copy, Debug, PartialEq, Eq)]
 pub struct Computed {
-    pub range: Interval,
+    pub range: Option<Interval>,
     pub overflow: bool,
     pub zero: bool,
 }
 
-// The least and the greatest exact result before the cut to words; of a remainder, bounds of them. Without a pair: a division by only 0.
-#[derive(Clone, Copy)]
-pub enum Uncut {
-    NoPair,
-    Pair(i64, i64),
+// The least and the greatest exact result before the cut to words; of a remainder, bounds of them. A division by only 0 has none.
+#[derive(Clone, Copy, Debug, PartialEq, Eq)]
+pub struct Uncut {
+    pub low: i64,
+    pub high: i64,
 }
 
-#[derive(Clone, Copy)]
+#[derive(Clone, Copy, Debug, PartialEq, Eq)]
 pub enum Comparison {
     Less,
     AtMost,
@@ -52,17 +52,17 @@ pub enum Comparison {
 }
 
 // Which of true and false a condition can be. Neither is document 01's none.
-#[derive(Clone, Copy)]
+#[derive(Clone, Copy, Debug, PartialEq, Eq)]
 pub struct Decision {
     pub yes: bool,
     pub no: bool,
 }
 
 // What a comparison leaves of its two sides; both are none where one is.
-#[derive(Clone, Copy)]
+#[derive(Clone, Copy, Debug, PartialEq, Eq)]
 pub struct Cuts {
-    pub left: Interval,
-    pub right: Interval,
+    pub left: Option<Interval>,
+    pub right: Option<Interval>,
 }
 
 // Does nothing: its contract is every law of the crate and the worked examples, so that none of them can go unproved.

@@ -4,7 +4,7 @@ ghost use Rattle.interval.specs.Narrow.{no_cuts_of, kept_of, swapped_of, low_pas
 ghost use Rattle.interval.specs.declared.Comparison.TheVariants.{Less, AtMost, Equal, NotEqual};
 
 use crate::arithmetic::clamp;
-use crate::integer::{max32, max64, min32, min64, minus, plus, same, widen};
+use crate::integer::{minus, plus};
 use crate::lattice::{between, taken};
 use crate::{Comparison, Cuts, Interval};
 
@@ -12,128 +12,135 @@ fn no_cuts() -> Cuts
     ensures { result ≡ no_cuts_of }
 {
     Cuts {
-        left: Interval::None,
-        right: Interval::None,
+        left: None,
+        right: None,
     }
 }
 
 // Both sides as they are, or none where one is.
-fn kept(left: Interval, right: Interval) -> Cuts
+#[tactic(auto, unfolding(crate::specs::Narrow::kept_of, crate::specs::Interval::on_ends))]
+fn kept(left: Option<Interval>, right: Option<Interval>) -> Cuts
     ensures { result ≡ kept_of left right }
 {
-    let Interval::Between(a, b) = taken(left) else {
+    let Some(left) = taken(left) else {
         return no_cuts();
     };
-    let Interval::Between(c, d) = taken(right) else {
+    let Some(right) = taken(right) else {
         return no_cuts();
     };
     Cuts {
-        left: Interval::Between(a, b),
-        right: Interval::Between(c, d),
+        left: Some(left),
+        right: Some(right),
     }
 }
 
 fn swapped(u: Cuts) -> Cuts
     ensures { result ≡ swapped_of u }
 {
-    let left = u.left;
-    let right = u.right;
     Cuts {
-        left: right,
-        right: left,
+        left: u.right,
+        right: u.left,
     }
 }
 
-// The low end a past the single value of c..d.
-fn low_past(a: i32, c: i32, d: i32) -> i64
-    ensures { result ≡ low_past_of a c d }
+// The low end a past the single value of y.
+#[tactic(auto, unfolding(crate::specs::Narrow::low_past_of, crate::specs::Integer::eq_z))]
+fn low_past(a: i32, y: Interval) -> i64
+    ensures { result ≡ low_past_of a y.low y.high }
 {
-    if same(c, d) & same(a, c) {
+    if (y.low == y.high) & (a == y.low) {
         plus(a, 1)
     } else {
-        widen(a)
+        i64::from(a)
     }
 }
 
-// The high end b past the single value of c..d.
-fn high_past(b: i32, c: i32, d: i32) -> i64
-    ensures { result ≡ high_past_of b c d }
+// The high end b past the single value of y.
+#[tactic(auto, unfolding(crate::specs::Narrow::high_past_of, crate::specs::Integer::eq_z))]
+fn high_past(b: i32, y: Interval) -> i64
+    ensures { result ≡ high_past_of b y.low y.high }
 {
-    if same(c, d) & same(b, c) {
+    if (y.low == y.high) & (b == y.low) {
         minus(b, 1)
     } else {
-        widen(b)
+        i64::from(b)
     }
 }
 
-fn without(a: i32, b: i32, c: i32, d: i32) -> Interval
-    ensures { result ≡ without_of a b c d }
+fn without(x: Interval, y: Interval) -> Option<Interval>
+    ensures { result ≡ without_of x.low x.high y.low y.high }
 {
-    clamp(low_past(a, c, d), high_past(b, c, d))
+    clamp(low_past(x.low, y), high_past(x.high, y))
 }
 
-fn cuts_less(a: i32, b: i32, c: i32, d: i32) -> Cuts
-    ensures { result ≡ cuts_at Less a b c d }
+fn cuts_less(x: Interval, y: Interval) -> Cuts
+    ensures { result ≡ cuts_at Less x.low x.high y.low y.high }
 {
-    let left = clamp(widen(a), min64(widen(b), minus(d, 1)));
-    let right = clamp(max64(widen(c), plus(a, 1)), widen(d));
+    let left = clamp(i64::from(x.low), i64::from(x.high).min(minus(y.high, 1)));
+    let right = clamp(i64::from(y.low).max(plus(x.low, 1)), i64::from(y.high));
     kept(left, right)
 }
 
-fn cuts_at_most(a: i32, b: i32, c: i32, d: i32) -> Cuts
-    ensures { result ≡ cuts_at AtMost a b c d }
+fn cuts_at_most(x: Interval, y: Interval) -> Cuts
+    ensures { result ≡ cuts_at AtMost x.low x.high y.low y.high }
 {
-    kept(between(a, min32(b, d)), between(max32(c, a), d))
+    kept(
+        between(x.low, x.high.min(y.high)),
+        between(y.low.max(x.low), y.high),
+    )
 }
 
-fn cuts_equal(a: i32, b: i32, c: i32, d: i32) -> Cuts
-    ensures { result ≡ cuts_at Equal a b c d }
+fn cuts_equal(x: Interval, y: Interval) -> Cuts
+    ensures { result ≡ cuts_at Equal x.low x.high y.low y.high }
 {
-    let meet = between(max32(a, c), min32(b, d));
+    let meet = between(x.low.max(y.low), x.high.min(y.high));
     kept(meet, meet)
 }
 
-fn cuts_not_equal(a: i32, b: i32, c: i32, d: i32) -> Cuts
-    ensures { result ≡ cuts_at NotEqual a b c d }
+#[tactic(auto, unfolding(crate::specs::Narrow::cuts_at))]
+fn cuts_not_equal(x: Interval, y: Interval) -> Cuts
+    ensures { result ≡ cuts_at NotEqual x.low x.high y.low y.high }
 {
-    kept(without(a, b, c, d), without(c, d, a, b))
+    kept(without(x, y), without(y, x))
 }
 
-fn cuts_yes(k: Comparison, a: i32, b: i32, c: i32, d: i32) -> Cuts
-    ensures { result ≡ cuts_at k a b c d }
+fn cuts_yes(k: Comparison, x: Interval, y: Interval) -> Cuts
+    ensures { result ≡ cuts_at k x.low x.high y.low y.high }
 {
     match k {
-        Comparison::Less => cuts_less(a, b, c, d),
-        Comparison::AtMost => cuts_at_most(a, b, c, d),
-        Comparison::Equal => cuts_equal(a, b, c, d),
-        Comparison::NotEqual => cuts_not_equal(a, b, c, d),
+        Comparison::Less => cuts_less(x, y),
+        Comparison::AtMost => cuts_at_most(x, y),
+        Comparison::Equal => cuts_equal(x, y),
+        Comparison::NotEqual => cuts_not_equal(x, y),
     }
 }
 
-fn cuts_no(k: Comparison, a: i32, b: i32, c: i32, d: i32) -> Cuts
-    ensures { result ≡ cuts_for_of k false a b c d }
+#[tactic(auto, unfolding(crate::specs::Narrow::cuts_for_of))]
+fn cuts_no(k: Comparison, x: Interval, y: Interval) -> Cuts
+    ensures { result ≡ cuts_for_of k false x.low x.high y.low y.high }
 {
     match k {
-        Comparison::Less => swapped(cuts_at_most(c, d, a, b)),
-        Comparison::AtMost => swapped(cuts_less(c, d, a, b)),
-        Comparison::Equal => cuts_not_equal(a, b, c, d),
-        Comparison::NotEqual => cuts_equal(a, b, c, d),
+        Comparison::Less => swapped(cuts_at_most(y, x)),
+        Comparison::AtMost => swapped(cuts_less(y, x)),
+        Comparison::Equal => cuts_not_equal(x, y),
+        Comparison::NotEqual => cuts_equal(x, y),
     }
 }
 
 // What is left of x and y where their comparison has the truth wanted. None on a side, or an empty cut, gives none.
-pub fn cuts(k: Comparison, wanted: bool, x: Interval, y: Interval) -> Cuts
+#[tactic(auto, unfolding(crate::specs::Narrow::cuts_of, crate::specs::Narrow::cuts_for_of, crate::specs::Interval::on_ends))]
+pub fn cuts(k: Comparison, wanted: bool, x: Option<Interval>, y: Option<Interval>) -> Cuts
     ensures { result ≡ cuts_of k wanted x y }
 {
-    let Interval::Between(a, b) = taken(x) else {
+    let Some(x) = taken(x) else {
         return no_cuts();
     };
-    let Interval::Between(c, d) = taken(y) else {
+    let Some(y) = taken(y) else {
         return no_cuts();
     };
     if wanted {
-        cuts_yes(k, a, b, c, d)
+        cuts_yes(k, x, y)
     } else {
-        cuts_no(k, a, b, c, d)
+        cuts_no(k, x, y)
     }
 }

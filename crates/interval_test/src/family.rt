@@ -1,214 +1,160 @@
 // The families of cases over intervals: each operation of the library beside the expected answer.
-ghost use Rattle.std.specs.Prelude.{◌≤◌};
+use crate::brute::{covered, each, pairs, remainders, result, values};
+use crate::exact::{holds, negative};
+use crate::hull::{cut, enclosed, numbers, passes, truths};
+use crate::side::{SIDES, Side, side_at};
+use crate::tally::Tally;
+use interval::arithmetic::{negate, operate};
+use interval::compare::compare;
+use interval::lattice::{is_none, join, meet, taken, within};
+use interval::{Comparison, Operation};
 
-use crate::brute::{Ask, covered, each, pairs};
-use crate::hull::nothing;
-use crate::side::{Side, side_at};
-use crate::tally::{Tally, no_cases};
-use interval::{Comparison, Computed, Decision, Interval, Operation};
+const COMPARISONS: [Comparison; 4] = [
+    Comparison::Less,
+    Comparison::AtMost,
+    Comparison::Equal,
+    Comparison::NotEqual,
+];
 
-#[derive(Clone, Copy)]
-pub enum Family {
-    Negation,
-    Arithmetic,
-    Comparisons,
-    Cuts,
-    Lattice,
-}
-
-fn negation(x: Side) -> bool
-    requires { x.to ≤ 21 }
+// The cases of every interval.
+fn alone<F: Fn(Side) -> Tally>(cases: F) -> Tally
+    requires { F.IsAlwaysCallable cases }
 {
-    let given = x.given;
-    let got = interval::arithmetic::negate(given);
-    let range = got.range;
-    let h = each(Ask::Negation, nothing(), x);
-    h.cut().is(range) & (got.overflow == h.passes()) & !got.zero
+    let mut tally = Tally::default();
+    for n in 0..SIDES {
+        tally = tally.and(cases(side_at(n)));
+    }
+    tally
 }
 
-fn operated(op: Operation, x: Interval, y: Interval) -> Computed {
-    match op {
-        Operation::Sum => interval::arithmetic::sum(x, y),
-        Operation::Difference => interval::arithmetic::difference(x, y),
-        Operation::Product => interval::arithmetic::product(x, y),
-        Operation::Quotient => interval::arithmetic::quotient(x, y),
-        Operation::Remainder => interval::arithmetic::remainder(x, y),
-    }
+// The cases of every two intervals.
+fn together<F: Fn(Side, Side) -> Tally>(cases: F) -> Tally
+    requires { F.IsAlwaysCallable cases }
+{
+    alone(|x| alone(|y| cases(x, y)))
+}
+
+// Whether the library negates x as it should; and so below for each of its operations.
+fn negated(x: Side) -> bool {
+    let got = negate(x.given);
+    let expected = each(None, x, |x| Some(negative(x)));
+    (numbers(got.range) == cut(expected)) & (got.overflow == passes(expected)) & !got.zero
+}
+
+pub(crate) fn negation() -> Tally {
+    alone(|x| Tally::default().count(negated(x)))
 }
 
 // Whether a pair divides by zero.
-fn by_zero(op: Operation, x: Side, y: Side) -> bool
-    requires { (x.to ≤ 21) × (y.to ≤ 21) }
-{
-    match op {
-        Operation::Sum => false,
-        Operation::Difference => false,
-        Operation::Product => false,
-        Operation::Quotient => pairs(Ask::Zero, x, y).some,
-        Operation::Remainder => pairs(Ask::Zero, x, y).some,
-    }
+fn by_zero(op: Operation, x: Side, y: Side) -> bool {
+    matches!(op, Operation::Quotient | Operation::Remainder)
+        & !x.values().is_empty()
+        & y.values().contains(&0)
 }
 
-fn operation(op: Operation, x: Side, y: Side) -> bool
-    requires { (x.to ≤ 21) × (y.to ≤ 21) }
-{
-    let left = x.given;
-    let right = y.given;
-    let got = operated(op, left, right);
-    let range = got.range;
-    let h = pairs(Ask::Result(op), x, y);
-    h.cut().is(range) & (got.overflow == h.passes()) & (got.zero == by_zero(op, x, y))
+fn operated(op: Operation, x: Side, y: Side) -> bool {
+    let got = operate(op, x.given, y.given);
+    let expected = pairs(x, y, |x, y| result(op, x, y));
+    (numbers(got.range) == cut(expected))
+        & (got.overflow == passes(expected))
+        & (got.zero == by_zero(op, x, y))
 }
 
 // The ends of a remainder need be no exact results: they are those of document 02, and hold every exact result.
-fn remainder(x: Side, y: Side) -> bool
-    requires { (x.to ≤ 21) × (y.to ≤ 21) }
-{
-    let left = x.given;
-    let right = y.given;
-    let got = operated(Operation::Remainder, left, right);
-    let range = got.range;
-    let dividend = each(Ask::Value, nothing(), x);
-    let h = dividend.remainder(
-        each(Ask::Lowest, nothing(), y),
-        each(Ask::Highest, nothing(), y),
-    );
-    let exact = pairs(Ask::Result(Operation::Remainder), x, y);
-    h.is(range)
-        & exact.within(h)
+fn divided(x: Side, y: Side) -> bool {
+    let op = Operation::Remainder;
+    let got = operate(op, x.given, y.given);
+    let expected = remainders(x, y);
+    let exact = pairs(x, y, |x, y| result(op, x, y));
+    (numbers(got.range) == expected)
+        & enclosed(exact, expected)
         & !got.overflow
-        & (got.zero == by_zero(Operation::Remainder, x, y))
+        & (got.zero == by_zero(op, x, y))
 }
 
-fn arithmetic(t: Tally, x: Side, y: Side) -> Tally
-    requires { (x.to ≤ 21) × (y.to ≤ 21) }
-{
-    let sum = t.count(operation(Operation::Sum, x, y));
-    let difference = sum.count(operation(Operation::Difference, x, y));
-    let product = difference.count(operation(Operation::Product, x, y));
-    let quotient = product.count(operation(Operation::Quotient, x, y));
-    quotient.count(remainder(x, y))
-}
-
-fn compared(k: Comparison, x: Interval, y: Interval) -> Decision {
-    match k {
-        Comparison::Less => interval::compare::less(x, y),
-        Comparison::AtMost => interval::compare::at_most(x, y),
-        Comparison::Equal => interval::compare::equal(x, y),
-        Comparison::NotEqual => interval::compare::not_equal(x, y),
+fn operations(x: Side, y: Side) -> Tally {
+    let mut tally = Tally::default().count(divided(x, y));
+    for op in [
+        Operation::Sum,
+        Operation::Difference,
+        Operation::Product,
+        Operation::Quotient,
+    ] {
+        tally = tally.count(operated(op, x, y));
     }
+    tally
 }
 
-fn comparison(k: Comparison, x: Side, y: Side) -> bool
-    requires { (x.to ≤ 21) × (y.to ≤ 21) }
-{
-    let left = x.given;
-    let right = y.given;
-    pairs(Ask::Truth(k), x, y).allows(compared(k, left, right))
+pub(crate) fn arithmetic() -> Tally {
+    together(operations)
 }
 
-fn comparisons(t: Tally, x: Side, y: Side) -> Tally
-    requires { (x.to ≤ 21) × (y.to ≤ 21) }
-{
-    let less = t.count(comparison(Comparison::Less, x, y));
-    let at_most = less.count(comparison(Comparison::AtMost, x, y));
-    let equal = at_most.count(comparison(Comparison::Equal, x, y));
-    equal.count(comparison(Comparison::NotEqual, x, y))
+fn compared(k: Comparison, x: Side, y: Side) -> bool {
+    let possible = pairs(x, y, |x, y| Some(i64::from(holds(k, x, y))));
+    compare(k, x.given, y.given) == truths(possible)
 }
 
-fn cut(k: Comparison, wanted: bool, x: Side, y: Side) -> bool
-    requires { (x.to ≤ 21) × (y.to ≤ 21) }
-{
-    let left = x.given;
-    let right = y.given;
-    let got = interval::narrow::cuts(k, wanted, left, right);
-    let got_left = got.left;
-    let got_right = got.right;
-    pairs(Ask::Left(k, wanted), x, y).is(got_left)
-        & pairs(Ask::Right(k, wanted), x, y).is(got_right)
+fn every_comparison(x: Side, y: Side) -> Tally {
+    let mut tally = Tally::default();
+    for k in COMPARISONS {
+        tally = tally.count(compared(k, x, y));
+    }
+    tally
 }
 
-fn both_truths(t: Tally, k: Comparison, x: Side, y: Side) -> Tally
-    requires { (x.to ≤ 21) × (y.to ≤ 21) }
-{
-    t.count(cut(k, true, x, y)).count(cut(k, false, x, y))
+pub(crate) fn comparisons() -> Tally {
+    together(every_comparison)
+}
+
+// The cuts are the values x, and y, of the pairs for which the comparison has the truth wanted.
+fn narrowed(k: Comparison, wanted: bool, x: Side, y: Side) -> bool {
+    let got = interval::narrow::cuts(k, wanted, x.given, y.given);
+    let left = pairs(
+        x,
+        y,
+        |x, y| (holds(k, x, y) == wanted).then_some(i64::from(x)),
+    );
+    let right = pairs(
+        x,
+        y,
+        |x, y| (holds(k, x, y) == wanted).then_some(i64::from(y)),
+    );
+    (numbers(got.left) == left) & (numbers(got.right) == right)
 }
 
 // A cut can end next to a grid value, so both sides are dense.
-fn cuts(t: Tally, x: Side, y: Side) -> Tally
-    requires { (x.to ≤ 21) × (y.to ≤ 21) }
-{
+fn every_cut(x: Side, y: Side) -> Tally {
+    let mut tally = Tally::default();
     if !(x.dense & y.dense) {
-        return t;
+        return tally;
     }
-    let less = both_truths(t, Comparison::Less, x, y);
-    let at_most = both_truths(less, Comparison::AtMost, x, y);
-    let equal = both_truths(at_most, Comparison::Equal, x, y);
-    both_truths(equal, Comparison::NotEqual, x, y)
-}
-
-fn lattice(t: Tally, x: Side, y: Side) -> Tally
-    requires { (x.to ≤ 21) × (y.to ≤ 21) }
-{
-    let left = x.given;
-    let right = y.given;
-    let within = interval::lattice::within(left, right) == covered(x, y);
-    let common = pairs(Ask::Left(Comparison::Equal, true), x, y);
-    let meet = common.is(interval::lattice::meet(left, right));
-    let all = each(Ask::Value, each(Ask::Value, nothing(), x), y);
-    let join = all.is(interval::lattice::join(left, right));
-    t.count(within).count(meet).count(join)
-}
-
-fn lattice_alone(t: Tally, x: Side) -> Tally
-    requires { x.to ≤ 21 }
-{
-    let given = x.given;
-    let all = each(Ask::Value, nothing(), x);
-    let none = interval::lattice::is_none(given) == !all.some;
-    t.count(none).count(all.is(interval::lattice::taken(given)))
-}
-
-// The cases of one interval.
-fn alone(family: Family, t: Tally, x: Side) -> Tally
-    requires { x.to ≤ 21 }
-{
-    match family {
-        Family::Negation => t.count(negation(x)),
-        Family::Arithmetic => t,
-        Family::Comparisons => t,
-        Family::Cuts => t,
-        Family::Lattice => lattice_alone(t, x),
+    for k in COMPARISONS {
+        tally = tally
+            .count(narrowed(k, true, x, y))
+            .count(narrowed(k, false, x, y));
     }
+    tally
 }
 
-// The cases of two intervals.
-fn together(family: Family, t: Tally, x: Side, y: Side) -> Tally
-    requires { (x.to ≤ 21) × (y.to ≤ 21) }
-{
-    match family {
-        Family::Negation => t,
-        Family::Arithmetic => arithmetic(t, x, y),
-        Family::Comparisons => comparisons(t, x, y),
-        Family::Cuts => cuts(t, x, y),
-        Family::Lattice => lattice(t, x, y),
-    }
+pub(crate) fn cuts() -> Tally {
+    together(every_cut)
 }
 
-fn with_left(family: Family, t: Tally, x: Side) -> Tally
-    requires { x.to ≤ 21 }
-{
-    let mut t = alone(family, t, x);
-    for n in 0..442 {
-        t = together(family, t, x, side_at(n));
-    }
-    t
+fn one_in_lattice(x: Side) -> Tally {
+    Tally::default()
+        .count(is_none(x.given) == x.values().is_empty())
+        .count(numbers(taken(x.given)) == values(None, x))
 }
 
-pub(crate) fn run(family: Family) -> Tally {
-    let mut t = no_cases();
-    for n in 0..442 {
-        t = with_left(family, t, side_at(n));
-    }
-    t
+fn two_in_lattice(x: Side, y: Side) -> Tally {
+    let common = pairs(x, y, |x, y| (x == y).then_some(i64::from(x)));
+    let all = values(values(None, x), y);
+    Tally::default()
+        .count(within(x.given, y.given) == covered(x, y))
+        .count(numbers(meet(x.given, y.given)) == common)
+        .count(numbers(join(x.given, y.given)) == all)
+}
+
+pub(crate) fn lattice() -> Tally {
+    alone(one_in_lattice).and(together(two_in_lattice))
 }

@@ -1,99 +1,60 @@
-// The least and the greatest of the numbers gathered so far, and what they say of an answer of the library.
-use crate::exact::wide;
+// The least and the greatest of the numbers gathered so far, where there are any, and what they say of an answer of the library.
 use interval::{Decision, Interval};
 
-// Without a number, low and high mean nothing.
-#[derive(Clone, Copy)]
+#[derive(Clone, Copy, PartialEq, Eq)]
 pub struct Hull {
-    pub some: bool,
     pub low: i64,
     pub high: i64,
 }
 
-pub(crate) fn nothing() -> Hull {
-    Hull {
-        some: false,
-        low: 0,
-        high: 0,
+// With z gathered too.
+pub(crate) fn add(hull: Option<Hull>, z: i64) -> Option<Hull> {
+    let Some(h) = hull else {
+        return Some(Hull { low: z, high: z });
+    };
+    Some(Hull {
+        low: h.low.min(z),
+        high: h.high.max(z),
+    })
+}
+
+// The numbers of an answer.
+pub(crate) fn numbers(answer: Option<Interval>) -> Option<Hull> {
+    let x = answer?;
+    Some(Hull {
+        low: i64::from(x.low),
+        high: i64::from(x.high),
+    })
+}
+
+// The part that words hold.
+pub(crate) fn cut(hull: Option<Hull>) -> Option<Hull> {
+    let h = hull?;
+    let words = Hull {
+        low: h.low.max(-2147483648),
+        high: h.high.min(2147483647),
+    };
+    if words.low <= words.high {
+        Some(words)
+    } else {
+        None
     }
 }
 
-fn lesser(a: i64, b: i64) -> i64 {
-    if a < b { a } else { b }
+// Whether a number gathered is no word.
+pub(crate) fn passes(hull: Option<Hull>) -> bool {
+    hull.is_some_and(|h| (h.low < -2147483648) | (2147483647 < h.high))
 }
 
-fn greater(a: i64, b: i64) -> i64 {
-    if a < b { b } else { a }
+// Whether every number gathered lies from the least to the greatest of the outer one.
+pub(crate) fn enclosed(hull: Option<Hull>, outer: Option<Hull>) -> bool {
+    hull.is_none_or(|h| outer.is_some_and(|o| (o.low <= h.low) & (h.high <= o.high)))
 }
 
-impl Hull {
-    pub(crate) fn add(self, z: i64) -> Hull {
-        if self.some {
-            Hull {
-                some: true,
-                low: lesser(self.low, z),
-                high: greater(self.high, z),
-            }
-        } else {
-            Hull {
-                some: true,
-                low: z,
-                high: z,
-            }
-        }
-    }
-
-    // The part of it that words hold.
-    pub(crate) fn cut(self) -> Hull {
-        let low = greater(self.low, -2147483648);
-        let high = lesser(self.high, 2147483647);
-        Hull {
-            some: self.some & (low <= high),
-            low: low,
-            high: high,
-        }
-    }
-
-    // Whether a number gathered is no word.
-    pub(crate) fn passes(self) -> bool {
-        self.some & ((self.low < -2147483648) | (2147483647 < self.high))
-    }
-
-    // Whether every number gathered lies from the least to the greatest of the other.
-    pub(crate) fn within(self, other: Hull) -> bool {
-        !self.some | (other.some & (other.low <= self.low) & (self.high <= other.high))
-    }
-
-    // The ends of a remainder, as document 02 has them, from those of its dividend and from what the divisors leave. By 0 alone, which leaves
-    // nothing, there are none.
-    pub(crate) fn remainder(self, lowest: Hull, highest: Hull) -> Hull {
-        Hull {
-            some: self.some & highest.some & (0 <= highest.high),
-            low: if self.low < 0 {
-                greater(self.low, lowest.low)
-            } else {
-                0
-            },
-            high: if 0 < self.high {
-                lesser(self.high, highest.high)
-            } else {
-                0
-            },
-        }
-    }
-
-    // Whether the interval is exactly from the least to the greatest.
-    pub(crate) fn is(self, x: Interval) -> bool {
-        match x {
-            Interval::None => !self.some,
-            Interval::Between(a, b) => self.some & (wide(a) == self.low) & (wide(b) == self.high),
-        }
-    }
-
-    // Whether the decision allows exactly the truths gathered, 1 for true and 0 for false.
-    pub(crate) fn allows(self, d: Decision) -> bool {
-        let yes = self.some & (self.high == 1);
-        let no = self.some & (self.low == 0);
-        (d.yes == yes) & (d.no == no)
+// The decision that allows exactly the truths gathered, 1 for true and 0 for false.
+pub(crate) fn truths(hull: Option<Hull>) -> Decision {
+    Decision {
+        yes: hull.is_some_and(|h| h.high == 1),
+        no: hull.is_some_and(|h| h.low == 0),
     }
 }

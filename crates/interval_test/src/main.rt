@@ -6,24 +6,32 @@ mod combine;
 mod exact;
 mod family;
 mod hull;
+mod out;
 mod side;
 mod tally;
 
-use crate::family::{Family, run};
-use crate::tally::{Tally, no_cases};
+use crate::out::Out;
+use crate::tally::Tally;
+use std::fmt::{self, Write};
 
-// Writes a family's line, and adds its cases to the total.
-fn report(total: Tally, name: &[u8], t: Tally) -> Tally {
-    t.print(name);
-    total.and(t)
+// Writes a family's line, and gives the total with its cases.
+fn report(name: &str, total: Tally, tally: Tally) -> Result<Tally, fmt::Error> {
+    writeln!(Out, "{name} {tally}")?;
+    Ok(total.and(tally))
+}
+
+// A line for each family of cases, and one for all of them.
+fn reports() -> fmt::Result {
+    let total = Tally::default();
+    let total = report("negation", total, family::negation())?;
+    let total = report("arithmetic", total, family::arithmetic())?;
+    let total = report("comparisons", total, family::comparisons())?;
+    let total = report("connectives", total, combine::connectives())?;
+    let total = report("cuts", total, family::cuts())?;
+    let total = report("lattice", total, family::lattice())?;
+    writeln!(Out, "total {total}")
 }
 
 fn main() {
-    let total = report(no_cases(), b"negation ", run(Family::Negation));
-    let total = report(total, b"arithmetic ", run(Family::Arithmetic));
-    let total = report(total, b"comparisons ", run(Family::Comparisons));
-    let total = report(total, b"connectives ", combine::run());
-    let total = report(total, b"cuts ", run(Family::Cuts));
-    let total = report(total, b"lattice ", run(Family::Lattice));
-    total.print(b"total ");
+    let _ = reports();
 }

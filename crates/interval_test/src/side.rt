@@ -5,7 +5,7 @@ use interval::Interval;
 
 // The words at both ends, where results pass them, and -8 to 8. Since -1, 0 and 1 are there, the least and the greatest result over two
 // intervals are those over their grid values, but for a remainder.
-const GRID: [i32; 21] = [
+static GRID: [i32; 21] = [
     -2147483648,
     -2147483647,
     -8,
@@ -33,52 +33,54 @@ const GRID: [i32; 21] = [
 // has every number of it.
 #[derive(Clone, Copy)]
 pub struct Side {
-    pub given: Interval,
-    pub from: usize,
-    pub to: usize,
+    pub given: Option<Interval>,
+    from: usize,
+    to: usize,
     pub dense: bool,
+    ghost in_grid: { (from ≤ to) × (to ≤ 21) },
 }
 
-pub(crate) fn value(k: usize) -> i32
-    requires { k < 21 }
-{
-    GRID[k]
+impl Side {
+    pub(crate) fn values(self) -> &'static [i32] {
+        &GRID[self.from..self.to]
+    }
 }
 
 // The stretches without a gap: the two least words, -8 to 8, and the two greatest.
 fn stretch(k: usize) -> usize {
-    if k < 2 {
-        0
-    } else if k < 19 {
-        1
-    } else {
-        2
+    match k {
+        0..=1 => 0,
+        2..=18 => 1,
+        _ => 2,
     }
 }
 
 // Of an inverted pair from..to is empty, as the pair counts as none.
 fn ends(i: usize, j: usize) -> Side
     requires { (i < 21) × (j < 21) }
-    ensures { result.to ≤ 21 }
 {
     Side {
-        given: Interval::Between(value(i), value(j)),
+        given: Some(Interval {
+            low: GRID[i],
+            high: GRID[j],
+        }),
         from: i,
-        to: j + 1,
+        to: i.max(j + 1),
         dense: stretch(i) == stretch(j),
     }
 }
 
-// The 441 pairs of ends, and none as the last.
+// How many there are: the 441 pairs of ends, and none as the last.
+pub(crate) const SIDES: usize = 442;
+
 pub(crate) fn side_at(n: usize) -> Side
     requires { n < 442 }
-    ensures { result.to ≤ 21 }
 {
     if n < 441 {
         return ends(n / 21, n % 21);
     }
     Side {
-        given: Interval::None,
+        given: None,
         from: 0,
         to: 0,
         dense: true,

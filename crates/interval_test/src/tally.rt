@@ -1,52 +1,32 @@
 // How many cases were run, and how many of them were wrong.
-#[derive(Clone, Copy)]
+use std::fmt;
+
+#[derive(Clone, Copy, Default)]
 pub struct Tally {
     pub cases: u64,
     pub wrong: u64,
 }
 
-// A count past this stays as it is. No run comes near it, and so every sum fits.
-const LIMIT: u64 = 1000000000;
-
-fn plus(n: u64, more: u64) -> u64 {
-    if LIMIT < n {
-        return n;
-    }
-    if LIMIT < more {
-        return more;
-    }
-    n + more
-}
-
-pub(crate) fn no_cases() -> Tally {
-    Tally { cases: 0, wrong: 0 }
-}
-
 impl Tally {
+    // With one more case.
     pub(crate) fn count(self, right: bool) -> Tally {
-        Tally {
-            cases: plus(self.cases, 1),
-            wrong: if right {
-                self.wrong
-            } else {
-                plus(self.wrong, 1)
-            },
-        }
+        self.and(Tally {
+            cases: 1,
+            wrong: u64::from(!right),
+        })
     }
 
-    pub(crate) fn and(self, t: Tally) -> Tally {
+    // With the cases of another. No run has so many that a sum is cut.
+    pub(crate) fn and(self, other: Tally) -> Tally {
         Tally {
-            cases: plus(self.cases, t.cases),
-            wrong: plus(self.wrong, t.wrong),
+            cases: self.cases.saturating_add(other.cases),
+            wrong: self.wrong.saturating_add(other.wrong),
         }
     }
+}
 
-    // Writes a line: the name, the cases and how many were wrong.
-    pub(crate) fn print(self, name: &[u8]) {
-        io::write_all(1, name);
-        io::print_decimal(1, self.cases);
-        io::write_all(1, b" cases, ");
-        io::print_decimal(1, self.wrong);
-        io::write_all(1, b" wrong\n");
+impl fmt::Display for Tally {
+    fn fmt<W: fmt::Write>(&self, f: &mut fmt::Formatter<W>) -> fmt::Result {
+        write!(f, "{} cases, {} wrong", self.cases, self.wrong)
     }
 }

@@ -1,316 +1,270 @@
--- The plan and the index as the points are gone through. A loop over the points has the invariant `Made t h p b`: what the book b has of the points
--- before p.
---     file-first, file-later             an assignment as the code files it
---     entered-other, entered-assign      a point as the code enters it
---     made-start, made_more              the invariant where the loop begins, and one point further
---     made_held, made-indexed, made-planned      what it says after the last point
+-- The plan as the points are gone through. A loop over the points has the invariant `Upto t h p b`: what the plan b has of the points before p.
+--     upto_start                   where the loop begins
+--     upto_other, upto_assign      one point further
+--     enter_head, enter_other, enter_assign      the same, as the code enters a point
+--     upto_held, upto_planned      what it says after the last point
 -- Assumes nothing.
-use Prim.Native.Nat.{ℕ, zero, suc, ◌+◌, ◌-◌, ◌<◌, ◌≤◌}
+use Prim.Native.Nat.{ℕ, ◌+◌, ◌<◌, ◌≤◌}
 use mathlib.Core.Path.{◌≡◌, refl, sym, ap, subst, fun_ext, ◌∙◌}
 use mathlib.Core.Bool.{Bool, true, false}
 use mathlib.Core.List.{List, [], ◌∷◌, ◌++◌}
 use native.Mathlib.Numerals.{add-one}
 use native.Mathlib.Decide.{dec_lt, ℕ_discrete}
 use native.Mathlib.Omega.{arith}
+use borrow.Author.Count.{below_more}
 use lib.IntN.{ℤ}
-use lib.ListN.{length, get_or, set, take, replicate, length-set, length-append, length-replicate, length-take, get_or-eq_default, get_or-append}
-use lib.Seq.{get_or-set_same, get_or-set_other, get_or-take, get_or-append_seam}
-use Rattle.words.specs.declared.Found.TheVariants.{Nothing, At}
+use lib.ListN.{length, get_or, set, replicate, length-replicate, get_or-replicate, get_or-eq_default}
+use lib.Seq.{get_or-set_same, get_or-set_other, take-suc-set}
 use Rattle.words.proofs.Bools.{clash}
 use Rattle.words.specs.First.{first_bad}
 use Rattle.table.specs.Layout.{sizes_of, points_of, task_of}
 use Rattle.table.specs.Decode.{point_of}
-use Rattle.table.specs.Passes.{Passes}
+use Rattle.table.specs.declared.checked.Table.{Table}
+use Rattle.table.proofs.PassLaws.{passes}
+use Rattle.table.specs.declared.Point.{Point}
+use Rattle.table.specs.declared.Point.TheVariants.{End, Assign, Test, Lock, Unlock}
 use Rattle.proposer.specs.Fold.{concat_below, those}
-use Rattle.proposer.specs.Walk.{sets_of}
-use Rattle.proposer.specs.Passes.{slot_of, written_to}
-use Rattle.proposer.proofs.ThoseLaws.{those-more, those-same, those-few}
-use Rattle.iterator.specs.Plan.{held_in, code_count, code_at, is_assign, is_slot, slots_of, slot_by, Indexed, Planned}
-use Rattle.iterator.specs.Book.{Book, book_of, noted_in, file_by, file_if, entered_in}
-use Rattle.iterator.proofs.ClearLaws.{get_d-equal}
-use Rattle.iterator.proofs.FilingLaws.{first_bad-same, first_bad-here, first_bad-stays}
-use Rattle.iterator.proofs.FilingLaws.{apart, apart_other, apart-here, apart-elsewhere, first_slot, first-is, later-slot, later-is, other-is}
+use Rattle.proposer.specs.Walk.{sets_of, mark_count, held_in as held_brought}
+use Rattle.proposer.specs.Passes.{code_of, slot_of, written_to}
+use Rattle.proposer.proofs.ThoseLaws.{those-more, those-same}
+use Rattle.proposer.proofs.SlotLaws.{variable-below}
+use Rattle.iterator.specs.declared.plan.Plan.{Plan}
+use Rattle.iterator.specs.Plan.{held_in, code_count, code_at, is_assign, is_slot, slots_of, Planned}
+use Rattle.iterator.specs.Book.{blank_plan, file_by, Upto}
+use Rattle.iterator.proofs.TableLaws.{points_few, small}
+use Rattle.iterator.proofs.SetLaws.{heads_few}
+use Rattle.iterator.proofs.GoLaws.{stands}
+use Rattle.iterator.proofs.HeldLaws.{held_below, held-past}
+use Rattle.iterator.proofs.FilingLaws.{first_bad-same, first_bad-here, first_bad-stays, apart, apart_other, apart-here, apart-elsewhere, first_slot, first-is, later-slot, later-is, other-is}
+use Rattle.std.specs.Prelude.{Option, None, Some}
 
--- ---- as the code files: by a test whether the index has 0, by one less than what it has
-pub file-first : (w : ℕ) (b : Book) (p c : ℕ) → w ≡ 0
-    → book_of (set (set b.plan (512 + p) p) (1024 + b.count) p) (set b.index c (p + 1)) (b.count + 1) ≡ file_by w b p c
-unfolding file_by
-file-first w b p c e = rw e
+-- an element of equal ones, or past them: the same
+equal_at : {A : Type 0} (n i : ℕ) (x : A) → get_or (replicate n x) i x ≡ x
+equal_at n i x = elim (dec_lt i n) [
+  | yes l ↦ get_or-replicate n i x x l
+  | no l ↦ get_or-eq_default (replicate n x) x {n = i} (omega (arith, length-replicate n x))
+]
 
-pub file-later : (w : ℕ) (b : Book) (p c : ℕ) → (w ≡ 0 → ⊥) → book_of (set b.plan (512 + p) (w - 1)) b.index b.count ≡ file_by w b p c
-unfolding file_by
-file-later zero b p c d = absurd (d refl)
-file-later (suc q) b p c d = let e : suc q - 1 ≡ q = omega arith in rw e
+-- what holds of the elements before p, and of what is stored at p
+stored : {A : Type 0} (l : List A) (d : A) {p : ℕ} {x : A} (P : ℕ → A → Type 0) → p < length l → ((q : ℕ) → q < p → P q (get_or l q d)) → P p x
+    → (q : ℕ) → q < p + 1 → P q (get_or (set l p x) q d)
+stored l d {p} {x} P k before here =
+    below_more (λ (q : ℕ). P q (get_or (set l p x) q d)) p
+    (λ q h. subst (P q) (sym (get_or-set_other l p q x d (omega arith))) (before q h))
+    (subst (P p) (sym (get_or-set_same l p x d k)) here)
 
-module _ (t : List ℤ) (h : ℕ → ℕ) (b : Book) (p : ℕ) where
-  pub entered-other : is_assign (point_of (points_of t) p) ≡ false
-      → book_of (noted_in b.plan p (h p) (task_of t p) (written_to (point_of (points_of t) p))) b.index b.count ≡ entered_in t h b p
-  unfolding file_if
-  entered-other e = rw e
-
-  pub entered-assign : (n : Book) → is_assign (point_of (points_of t) p) ≡ true
-      → n ≡ file_by (get_or b.index (code_at t h p) 0)
-      (book_of (noted_in b.plan p (h p) (task_of t p) (written_to (point_of (points_of t) p))) b.index b.count) p (code_at t h p)
-      → n ≡ entered_in t h b p
-  unfolding file_if
-  entered-assign n e q = rw e q
-
--- ---- one point's words
-module _ (l : List ℕ) (p s u v : ℕ) (size : length l ≡ 1281) (low : p < 256) where
-  noted-size : length (noted_in l p s u v) ≡ 1281
-  noted-size = simp length-set size
-
-  -- with the first of the three, and with two
-  abbrev one : List ℕ
-  one = set l p s
-
-  abbrev two : List ℕ
-  two = set one (256 + p) u
-
-  noted-held : get_or (noted_in l p s u v) p 0 ≡ s
-  noted-held =
-      get_or-set_other two (768 + p) p v 0 (omega arith) ∙ get_or-set_other one (256 + p) p u 0 (omega arith) ∙ get_or-set_same l p s 0 (omega arith)
-
-  noted-task : get_or (noted_in l p s u v) (256 + p) 0 ≡ u
-  noted-task =
-      get_or-set_other two (768 + p) (256 + p) v 0 (omega arith) ∙ get_or-set_same one (256 + p) u 0 (omega (arith, length-set l p s))
-
-  noted-variable : get_or (noted_in l p s u v) (768 + p) 0 ≡ v
-  noted-variable = get_or-set_same two (768 + p) v 0 (omega (arith, length-set l p s, length-set one (256 + p) u))
-
-  noted_other : (i : ℕ) → (i ≡ p → ⊥) → (i ≡ 256 + p → ⊥) → (i ≡ 768 + p → ⊥) → get_or (noted_in l p s u v) i 0 ≡ get_or l i 0
-  noted_other i d e f =
-      get_or-set_other two (768 + p) i v 0 f ∙ get_or-set_other one (256 + p) i u 0 e ∙ get_or-set_other l p i s 0 d
-
--- ---- what a book has of the points before p
 module _ (t : List ℤ) (h : ℕ → ℕ) where
-  pub record Made (p : ℕ) (b : Book) : Type 0 where
-    pub size : length b.plan ≡ 1281
-    pub heads : length b.index ≡ 32768
-    pub held : (q : ℕ) → q < p → get_or b.plan q 0 ≡ h q
-    pub free : (q : ℕ) → p ≤ q → q < 256 → get_or b.plan q 0 ≡ 0
-    pub task : (q : ℕ) → q < p → get_or b.plan (256 + q) 0 ≡ task_of t q
-    pub slot : (q : ℕ) → q < p → is_assign (point_of (points_of t) q) ≡ true → slot_of t h (code_at t h q) ≡ At (get_or b.plan (512 + q) 0)
-    pub variable : (q : ℕ) → q < p → get_or b.plan (768 + q) 0 ≡ written_to (point_of (points_of t) q)
-    pub index : (c : ℕ) → c < code_count t → slot_by (get_or b.index c 0) ≡ first_bad (apart t h c) p
-    pub count : b.count ≡ length (those (is_slot t h) p)
-    pub listed : (i : ℕ) → i < b.count → get_or b.plan (1024 + i) 0 ≡ get_or (those (is_slot t h) p) i 0
-
-  pub made-start : (plan index : List ℕ) → plan ≡ replicate 1281 0 → index ≡ replicate 32768 0 → Made 0 (book_of plan index 0)
-  unfolding those concat_below first_bad slot_by
-  made-start plan index e f =
+  -- ---- before the first point
+  pub upto_start : Upto t h 0 blank_plan
+  unfolding those concat_below first_bad
+  upto_start =
       record {
-        size = ap length e ∙ length-replicate {A = ℕ} 1281 0;
-        heads = ap length f ∙ length-replicate {A = ℕ} 32768 0;
         held = λ q l. absurd (omega arith);
-        free = λ q _ _. ap (λ (l : List ℕ). get_or l q 0) e ∙ get_d-equal {A = ℕ} 1281 q 0;
+        free = λ q _. equal_at {A = ℕ} 256 q 0;
         task = λ q l. absurd (omega arith);
-        slot = λ q l. absurd (omega arith);
+        place = λ q l. absurd (omega arith);
         variable = λ q l. absurd (omega arith);
-        index = λ c _. ap (λ (l : List ℕ). slot_by (get_or l c 0)) f ∙ ap slot_by (get_d-equal {A = ℕ} 32768 c 0);
-        count = refl;
-        listed = λ i l. absurd (omega arith);
+        few = omega arith;
+        listed = refl;
+        head = λ c _. equal_at {A = Option ℕ} 32768 c None;
       }
 
-  pub made-few : (p : ℕ) (b : Book) → Made p b → b.count ≤ p
-  made-few p b m = omega (arith, m.count, those-few (is_slot t h) p)
-
   -- ---- one point further
-  module _ (p : ℕ) (b : Book) (m : Made p b) (low : p < 256) where
-    abbrev noted : List ℕ
-    noted = noted_in b.plan p (h p) (task_of t p) (written_to (point_of (points_of t) p))
+  -- the lists have the room of their arrays
+  pub record Roomy (b : Plan) : Type 0 where
+    pub held : length b.held ≡ 256
+    pub tasks : length b.tasks ≡ 256
+    pub places : length b.places ≡ 256
+    pub variables : length b.variables ≡ 256
+    pub listed : length b.listed ≡ 256
+    pub heads : length b.heads ≡ 32768
 
-    -- what is left to show where another book differs from what is noted of p at the place of an entry and behind the list only
-    record Next (n : Book) : Type 0 where
-      size : length n.plan ≡ 1281
-      heads : length n.index ≡ 32768
-      other : (i : ℕ) → (i ≡ 512 + p → ⊥) → (i ≡ 1024 + b.count → ⊥) → get_or n.plan i 0 ≡ get_or noted i 0
-      slot : is_assign (point_of (points_of t) p) ≡ true → slot_of t h (code_at t h p) ≡ At (get_or n.plan (512 + p) 0)
-      index : (c : ℕ) → c < code_count t → slot_by (get_or n.index c 0) ≡ first_bad (apart t h c) (suc p)
-      count : n.count ≡ length (those (is_slot t h) (suc p))
-      listed : (i : ℕ) → i < n.count → get_or n.plan (1024 + i) 0 ≡ get_or (those (is_slot t h) (suc p)) i 0
+  module _ (p : ℕ) (b : Plan) (room : Roomy b) (m : Upto t h p b) (low : p < 256) where
+    -- the held set and the task of p noted
+    abbrev noted_held : List ℕ
+    noted_held = set b.held p (h p)
 
-    -- each point before p, and p
-    upto : (P : ℕ → Type 0) → ((q : ℕ) → q < p → P q) → P p → (q : ℕ) → q < suc p → P q
-    upto P before here q l = elim (ℕ_discrete q p) [ yes e ↦ subst P (sym e) here | no d ↦ before q (omega arith) ]
+    abbrev noted_tasks : List ℕ
+    noted_tasks = set b.tasks p (task_of t p)
 
-    next-other : (n : Book) → Next n → (i : ℕ) → (i ≡ p → ⊥) → (i ≡ 256 + p → ⊥) → (i ≡ 512 + p → ⊥) → (i ≡ 768 + p → ⊥)
-        → (i ≡ 1024 + b.count → ⊥) → get_or n.plan i 0 ≡ get_or b.plan i 0
-    next-other n x i d e f g k =
-        x.other i f k ∙ noted_other b.plan p (h p) (task_of t p) (written_to (point_of (points_of t) p)) m.size low i d e g
+    held-next : (q : ℕ) → q < p + 1 → get_or noted_held q 0 ≡ h q
+    held-next = stored b.held 0 (λ (q : ℕ) (s : ℕ). s ≡ h q) (omega (arith, room.held)) m.held refl
 
-    next-made : (n : Book) → Next n → Made (suc p) n
-    next-made n x =
-        let few = made-few p b m in
-        let same = next-other n x in
+    free-next : (q : ℕ) → p + 1 ≤ q → get_or noted_held q 0 ≡ 0
+    free-next q l = get_or-set_other b.held p q (h p) 0 (omega arith) ∙ m.free q (omega arith)
+
+    task-next : (q : ℕ) → q < p + 1 → get_or noted_tasks q 0 ≡ task_of t q
+    task-next = stored b.tasks 0 (λ (q : ℕ) (u : ℕ). u ≡ task_of t q) (omega (arith, room.tasks)) m.task refl
+
+    -- no assignment
+    pub upto_other : is_assign (point_of (points_of t) p) ≡ false
+        → Upto t h (p + 1) (record { held = noted_held; tasks = noted_tasks; places = b.places; variables = b.variables; listed = b.listed; count = b.count; heads = b.heads })
+    upto_other e =
         record {
-          size = x.size;
-          heads = x.heads;
-          held = upto (λ q. get_or n.plan q 0 ≡ h q)
-              (λ q l. same q (omega arith) (omega arith) (omega arith) (omega arith) (omega arith) ∙ m.held q l)
-              (x.other p (omega arith) (omega arith) ∙ noted-held b.plan p (h p) (task_of t p) (written_to (point_of (points_of t) p)) m.size low);
-          free = λ q l k. same q (omega arith) (omega arith) (omega arith) (omega arith) (omega arith) ∙ m.free q (omega arith) k;
-          task = upto (λ q. get_or n.plan (256 + q) 0 ≡ task_of t q)
-              (λ q l. same (256 + q) (omega arith) (omega arith) (omega arith) (omega arith) (omega arith) ∙ m.task q l)
-              (x.other (256 + p) (omega arith) (omega arith) ∙ noted-task b.plan p (h p) (task_of t p) (written_to (point_of (points_of t) p)) m.size low);
-          slot = upto (λ q. is_assign (point_of (points_of t) q) ≡ true → slot_of t h (code_at t h q) ≡ At (get_or n.plan (512 + q) 0))
-              (λ q l e. rw (same (512 + q) (omega arith) (omega arith) (omega arith) (omega arith) (omega arith)) (m.slot q l e))
-              x.slot;
-          variable = upto (λ q. get_or n.plan (768 + q) 0 ≡ written_to (point_of (points_of t) q))
-              (λ q l. same (768 + q) (omega arith) (omega arith) (omega arith) (omega arith) (omega arith) ∙ m.variable q l)
-              (x.other (768 + p) (omega arith) (omega arith) ∙ noted-variable b.plan p (h p) (task_of t p) (written_to (point_of (points_of t) p)) m.size low);
-          index = x.index;
-          count = x.count;
-          listed = x.listed;
-        }
-
-    noted-long : length noted ≡ 1281
-    noted-long = noted-size b.plan p (h p) (task_of t p) (written_to (point_of (points_of t) p)) m.size low
-
-    -- what is listed before p
-    noted-listed : (i : ℕ) → i < b.count → get_or noted (1024 + i) 0 ≡ get_or (those (is_slot t h) p) i 0
-    noted-listed i l =
-        let few = made-few p b m in
-        noted_other b.plan p (h p) (task_of t p) (written_to (point_of (points_of t) p)) m.size low (1024 + i) (omega arith) (omega arith) (omega arith)
-        ∙ m.listed i l
-
-    -- no assignment: the list is as it was
-    other-next : is_assign (point_of (points_of t) p) ≡ false → Next (book_of noted b.index b.count)
-    other-next e =
-        let same = those-same (is_slot t h) p (other-is t h p e) in
-        record {
-          size = noted-long;
-          heads = m.heads;
-          other = λ i _ _. refl;
-          slot = λ f. clash (sym f ∙ e);
-          index = λ c l. m.index c l ∙ sym (first_bad-same (apart t h c) p (apart_other t h c p e));
-          count = m.count ∙ sym (ap length same);
-          listed = λ i l. rw same (noted-listed i l);
+          held = held-next;
+          free = free-next;
+          task = task-next;
+          place = below_more _ p m.place (λ f. clash (sym f ∙ e));
+          variable = below_more _ p m.variable (λ f. clash (sym f ∙ e));
+          few = omega (arith, m.few);
+          listed = rw (add-one p, those-same (is_slot t h) p (other-is t h p e)) m.listed;
+          head = λ c l. rw (add-one p, first_bad-same (apart t h c) p (apart_other t h c p e)) (m.head c l);
         }
 
     module _ (e : is_assign (point_of (points_of t) p) ≡ true) (below : p < (sizes_of t).points) (code : code_at t h p < code_count t) where
       abbrev head : ℕ
       head = code_at t h p
 
-      -- the place of the entry is written
-      abbrev placed : ℕ → List ℕ
-      placed q = set noted (512 + p) q
+      -- and its variable
+      abbrev noted : Plan
+      noted =
+          record {
+            held = noted_held;
+            tasks = noted_tasks;
+            places = b.places;
+            variables = set b.variables p (written_to (point_of (points_of t) p));
+            listed = b.listed;
+            count = b.count;
+            heads = b.heads;
+          }
 
-      placed-other : (q i : ℕ) → (i ≡ 512 + p → ⊥) → get_or (placed q) i 0 ≡ get_or noted i 0
-      placed-other q i d = get_or-set_other noted (512 + p) i q 0 d
+      variable-next : (q : ℕ) → q < p + 1 → is_assign (point_of (points_of t) q) ≡ true → get_or noted.variables q 0 ≡ written_to (point_of (points_of t) q)
+      variable-next =
+          stored b.variables 0 (λ (q : ℕ) (v : ℕ). is_assign (point_of (points_of t) q) ≡ true → v ≡ written_to (point_of (points_of t) q)) (omega (arith, room.variables)) m.variable
+          (λ _. refl)
+
+      place-next : (r : ℕ) → slot_of t h head ≡ Some r → (q : ℕ) → q < p + 1 → is_assign (point_of (points_of t) q) ≡ true
+          → slot_of t h (code_at t h q) ≡ Some (get_or (set b.places p r) q 0)
+      place-next r s =
+          stored b.places 0 (λ (q : ℕ) (r : ℕ). is_assign (point_of (points_of t) q) ≡ true → slot_of t h (code_at t h q) ≡ Some r) (omega (arith, room.places)) m.place (λ _. s)
 
       -- heads other than that of p: nothing changes
-      elsewhere : (c : ℕ) → c < code_count t → (head ≡ c → ⊥) → slot_by (get_or b.index c 0) ≡ first_bad (apart t h c) (suc p)
-      elsewhere c l d = m.index c l ∙ sym (first_bad-same (apart t h c) p (apart-elsewhere t h p e c d))
+      elsewhere : (c : ℕ) → c < code_count t → (head ≡ c → ⊥) → get_or b.heads c None ≡ first_bad (apart t h c) (p + 1)
+      elsewhere c l d = rw (add-one p, first_bad-same (apart t h c) p (apart-elsewhere t h p e c d)) (m.head c l)
 
-      -- one filed after the first: the list is as it was
-      later-next : (q : ℕ) → get_or b.index head 0 ≡ suc q → Next (book_of (placed q) b.index b.count)
-      unfolding slot_by
-      later-next q w =
-          let at : first_bad (apart t h head) p ≡ At q = sym (m.index head code) ∙ ap slot_by w in
-          let same = those-same (is_slot t h) p (later-is t h p e below q at) in
+      upto_later : (r : ℕ) → get_or b.heads head None ≡ Some r → Upto t h (p + 1) (file_by (Some r) noted p head)
+      unfolding file_by
+      upto_later r w =
+          let at : first_bad (apart t h head) p ≡ Some r = sym (m.head head code) ∙ w in
           record {
-            size = length-set noted (512 + p) q ∙ noted-long;
-            heads = m.heads;
-            other = λ i d _. placed-other q i d;
-            slot = λ _. rw (get_or-set_same noted (512 + p) q 0 (omega (arith, noted-long))) (later-slot t h p e below q at);
-            index = λ c l. elim (ℕ_discrete head c) [
-              | yes f ↦ subst (λ (c : ℕ). slot_by (get_or b.index c 0) ≡ first_bad (apart t h c) (suc p)) f
-                  (ap slot_by w ∙ sym (first_bad-stays (apart t h head) p (suc p) q (omega arith) at))
+            held = held-next;
+            free = free-next;
+            task = task-next;
+            place = place-next r (later-slot t h p e below r at);
+            variable = variable-next;
+            few = omega (arith, m.few);
+            listed = rw (add-one p, those-same (is_slot t h) p (later-is t h p e below r at)) m.listed;
+            head = λ c l. elim (ℕ_discrete head c) [
+              | yes f ↦ subst (λ (c : ℕ). get_or b.heads c None ≡ first_bad (apart t h c) (p + 1)) f
+                  (w ∙ sym (first_bad-stays (apart t h head) p (p + 1) r (omega arith) at))
               | no d ↦ elsewhere c l d
             ];
-            count = m.count ∙ sym (ap length same);
-            listed = λ i l. rw same (placed-other q (1024 + i) (omega arith) ∙ noted-listed i l);
           }
 
-      -- the first one: its place comes last in the list
-      first_next : get_or b.index head 0 ≡ 0 → head < 32768 → Next (book_of (set (placed p) (1024 + b.count) p) (set b.index head (p + 1)) (b.count + 1))
-      unfolding slot_by
-      first_next w room =
-          let at : first_bad (apart t h head) p ≡ Nothing = sym (m.index head code) ∙ ap slot_by w in
-          let more = those-more (is_slot t h) p (first-is t h p e below at) in
-          let few = made-few p b m in
-          let long = length-set noted (512 + p) p ∙ noted-long in
-          record {
-            size = length-set (placed p) (1024 + b.count) p ∙ long;
-            heads = length-set b.index head (p + 1) ∙ m.heads;
-            other = λ i d f. get_or-set_other (placed p) (1024 + b.count) i p 0 f ∙ placed-other p i d;
-            slot = λ _. rw (get_or-set_other (placed p) (1024 + b.count) (512 + p) p 0 (omega arith), get_or-set_same noted (512 + p) p 0 (omega (arith, noted-long)))
-                (first_slot t h p e below at);
-            index = λ c l. elim (ℕ_discrete head c) [
-              | yes f ↦ subst (λ (c : ℕ). slot_by (get_or (set b.index head (p + 1)) c 0) ≡ first_bad (apart t h c) (suc p)) f
-                  (ap slot_by (get_or-set_same b.index head (p + 1) 0 (omega (arith, m.heads)) ∙ add-one p)
-                  ∙ sym (first_bad-here (apart t h head) p (suc p) (omega arith) at (apart-here t h p e)))
-              | no d ↦ ap slot_by (get_or-set_other b.index head c (p + 1) 0 (λ f. d (sym f))) ∙ elsewhere c l d
-            ];
-            count = omega (arith, m.count, ap length more, length-append (those (is_slot t h) p) (p ∷ []));
-            listed = λ i l. rw more (elim (ℕ_discrete i b.count) [
-              | yes f ↦ rw f (get_or-set_same (placed p) (1024 + b.count) p 0 (omega arith) ∙ sym (last (those (is_slot t h) p) b.count m.count))
-              | no d ↦
-                  let before : i < b.count = omega arith in
-                  get_or-set_other (placed p) (1024 + b.count) (1024 + i) p 0 (omega arith) ∙ placed-other p (1024 + i) (omega arith) ∙ noted-listed i before
-                  ∙ sym (get_or-append (those (is_slot t h) p) (p ∷ []) 0 i (omega (arith, m.count)))
-            ]);
-          }
-        where
-          last : (l : List ℕ) (k : ℕ) → k ≡ length l → get_or (l ++ (p ∷ [])) k 0 ≡ p
-          last l k f = rw f (get_or-append_seam l p [] 0)
-
-      filed-made : head < 32768 → Made (suc p) (file_by (get_or b.index head 0) (book_of noted b.index b.count) p head)
+      upto_first : get_or b.heads head None ≡ None → head < 32768 → Upto t h (p + 1) (file_by None noted p head)
       unfolding file_by
-      filed-made room = by (get_or b.index head 0) refl
+      upto_first w few =
+          let at : first_bad (apart t h head) p ≡ None = sym (m.head head code) ∙ w in
+          record {
+            held = held-next;
+            free = free-next;
+            task = task-next;
+            place = place-next p (first_slot t h p e below at);
+            variable = variable-next;
+            few = omega (arith, m.few);
+            listed = rw (add-one p, add-one b.count, those-more (is_slot t h) p (first-is t h p e below at))
+                (take-suc-set b.listed b.count p (omega (arith, m.few, room.listed)) ∙ ap (λ (l : List ℕ). l ++ (p ∷ [])) m.listed);
+            head = λ c l. elim (ℕ_discrete head c) [
+              | yes f ↦ subst (λ (c : ℕ). get_or (set b.heads head (Some p)) c None ≡ first_bad (apart t h c) (p + 1)) f
+                  (get_or-set_same b.heads head (Some p) None (omega (arith, room.heads))
+                  ∙ sym (first_bad-here (apart t h head) p (p + 1) (omega arith) at (apart-here t h p e)))
+              | no d ↦ get_or-set_other b.heads head c (Some p) None (λ f. d (sym f)) ∙ elsewhere c l d
+            ];
+          }
+
+      pub upto_assign : head < 32768 → Upto t h (p + 1) (file_by (get_or b.heads head None) noted p head)
+      upto_assign few = by (get_or b.heads head None) refl
         where
-          by : (w : ℕ) → get_or b.index head 0 ≡ w → Made (suc p) (file_by w (book_of noted b.index b.count) p head)
-          by zero w = next-made _ (first_next w room)
-          by (suc q) w = next-made _ (later-next q w)
+          by : (r : Option ℕ) → get_or b.heads head None ≡ r → Upto t h (p + 1) (file_by r noted p head)
+          by None w = upto_first w few
+          by (Some r) w = upto_later r w
 
-    pub made_more : p < (sizes_of t).points → code_at t h p < code_count t → code_count t ≤ 32768 → Made (p + 1) (entered_in t h b p)
-    unfolding file_if
-    made_more below code room = rw (add-one p) (by (is_assign (point_of (points_of t) p)) refl)
-      where
-        by : (x : Bool) → is_assign (point_of (points_of t) p) ≡ x → Made (suc p) (file_if x (book_of noted b.index b.count) p (code_at t h p))
-        by true e = filed-made e below code (omega arith)
-        by false e = next-made _ (other-next e)
+-- ---- the point p as the code enters it: s, u, v and c are its held set, task, variable and head
+module _ (t : Table) (marks : List Bool) (p : ℕ) (b : Plan) (room : Roomy t.words.now (held_brought t.words.now marks) b)
+    (m : Upto t.words.now (held_brought t.words.now marks) p b) (point : p < (sizes_of t.words.now).points)
+    {s u : ℕ} (s-is : s ≡ held_brought t.words.now marks p) (u-is : u ≡ task_of t.words.now p) where
+  abbrev h : ℕ → ℕ
+  h = held_brought t.words.now marks
 
--- ---- every point: what the passes count on, once how many places are listed stands behind the list
-module _ (t : List ℤ) (h : ℕ → ℕ) (passes : Passes t) (set-of : (p : ℕ) → h p < sets_of t) (past : (p : ℕ) → (sizes_of t).points ≤ p → h p ≡ 0)
-    (p : ℕ) (b : Book) (m : Made t h p b) (all : p ≡ (sizes_of t).points) where
-  abbrev counted : List ℕ
-  counted = set b.plan 1280 b.count
+  pub enter_other : {x : Point} → x ≡ point_of t.points.now p → ((v e q : ℕ) → x ≡ Assign v e q → ⊥)
+      → Upto t.words.now (held_brought t.words.now marks) (p + 1) (record { held = set b.held p s; tasks = set b.tasks p u; places = b.places; variables = b.variables; listed = b.listed; count = b.count; heads = b.heads })
+  unfolding is_assign
+  enter_other {x} read d = rw (s-is, u-is) (upto_other t.words.now h p b room m (omega (arith, points_few t.words.now t.checked)) (rw (stands t point read) (by x d)))
+    where
+      by : (x : Point) → ((v e q : ℕ) → x ≡ Assign v e q → ⊥) → is_assign x ≡ false
+      by End d = refl
+      by (Assign v e q) d = absurd (d v e q refl)
+      by (Test c y n) d = refl
+      by (Lock m q) d = refl
+      by (Unlock m q) d = refl
 
-  counted-other : (i : ℕ) → i < 1280 → get_or counted i 0 ≡ get_or b.plan i 0
-  counted-other i l = get_or-set_other b.plan 1280 i b.count 0 (omega arith)
+  module _ {v e q : ℕ} (read : Assign v e q ≡ point_of t.points.now p) where
+    assigns : is_assign (point_of (points_of t.words.now) p) ≡ true
+    unfolding is_assign
+    assigns = rw (stands t point read) refl
 
-  pub made_held : (q : ℕ) → held_in counted q ≡ h q
-  made_held q = elim (dec_lt q 256) [
-    | yes l ↦ get_or-take 256 counted q 0 l ∙ counted-other q (omega arith) ∙ elim (dec_lt q p) [
-      | yes k ↦ m.held q k
-      | no k ↦ m.free q (omega arith) l ∙ sym (past q (omega arith))
-    ]
-    | no l ↦ get_or-eq_default (take 256 counted) 0 {n = q} (omega (arith, length-take 256 counted)) ∙ sym (past q (omega (arith, passes.points.high)))
+    written-is : written_to (point_of (points_of t.words.now) p) ≡ v
+    unfolding written_to
+    written-is = rw (stands t point read) refl
+
+    code-is : {c : ℕ} → c ≡ code_of t.words.now u s v → c ≡ code_at t.words.now h p
+    code-is e = rw (written-is, ← s-is, ← u-is) e
+
+    pub enter_head : (u < (sizes_of t.words.now).tasks) × (s < sets_of t.words.now) × (v < (sizes_of t.words.now).variables)
+    enter_head =
+        let passed = passes t.words.now t.checked in (
+          rw u-is (passed.owned p point).task,
+          rw s-is (held_below t.words.now marks p),
+          subst (λ (v : ℕ). v < (sizes_of t.words.now).variables) written-is (variable-below t.words.now passed p point),
+        )
+
+    pub enter_assign : {c : ℕ} {n : Plan} → c ≡ code_of t.words.now u s v → c < code_count t.words.now
+        → n ≡ file_by (get_or b.heads c None)
+        (record { held = set b.held p s; tasks = set b.tasks p u; places = b.places; variables = set b.variables p v; listed = b.listed; count = b.count; heads = b.heads }) p c
+        → Upto t.words.now (held_brought t.words.now marks) (p + 1) n
+    enter_assign c-is l n-is =
+        let head = code-is c-is in
+        let few = heads_few t.words.now t.checked in
+        rw (n-is, head, s-is, u-is, ← written-is)
+        (upto_assign t.words.now h p b room m (omega (arith, points_few t.words.now t.checked)) assigns point (rw head at l) (omega (arith, few, rw head at l)))
+
+-- ---- every point, by the marks of all walks: what the passes count on
+module _ (t : Table) (marks : List Bool) (all : length marks ≡ mark_count t.words.now) (n : ℕ) (b : Plan)
+    (m : Upto t.words.now (held_brought t.words.now marks) n b) (within : n ≤ t.sizes.points) (end : t.sizes.points ≤ n) where
+  points-is : n ≡ (sizes_of t.words.now).points
+  points-is = omega (arith, within, end, (small t).points-are)
+
+  pub upto_held : (q : ℕ) → held_in b q ≡ held_brought t.words.now marks q
+  upto_held q = elim (dec_lt q n) [
+    | yes l ↦ m.held q l
+    | no l ↦ m.free q (omega arith) ∙ sym (held-past t.words.now marks q all (omega (arith, points-is)))
   ]
 
-  -- the held sets are h
-  held-is : h ≡ held_in counted
-  held-is = fun_ext (λ q. sym (made_held q))
+  -- the held sets are those brought
+  brought-is : held_brought t.words.now marks ≡ held_in b
+  brought-is = fun_ext (λ q. sym (upto_held q))
 
-  pub made-indexed : Indexed t (held_in counted) b.index
-  unfolding slot_of
-  made-indexed = subst (λ (f : ℕ → ℕ). Indexed t f b.index) held-is (record { slot = λ c l. rw all at (m.index c l) })
-
-  pub made-planned : Planned t counted
-  unfolding slots_of
-  made-planned =
+  pub upto_planned : Planned t.words.now b
+  unfolding slots_of slot_of
+  upto_planned =
+      let u = subst (λ (f : ℕ → ℕ). Upto t.words.now f (sizes_of t.words.now).points b) brought-is
+      (subst (λ (k : ℕ). Upto t.words.now (held_brought t.words.now marks) k b) points-is m) in
       record {
-        size = length-set b.plan 1280 b.count ∙ m.size;
-        held = λ q l. rw (made_held q) (set-of q);
-        task = λ q l. counted-other (256 + q) (omega (arith, passes.points.high)) ∙ m.task q (omega arith);
-        slot = λ q l e. subst (λ (f : ℕ → ℕ). slot_of t f (code_at t f q) ≡ At (get_or counted (512 + q) 0)) held-is
-            (rw (counted-other (512 + q) (omega (arith, passes.points.high))) (m.slot q (omega arith) e));
-        variable = λ q l. counted-other (768 + q) (omega (arith, passes.points.high)) ∙ m.variable q (omega arith);
-        count = subst (λ (f : ℕ → ℕ). get_or counted 1280 0 ≡ length (slots_of t f)) held-is
-            (get_or-set_same b.plan 1280 b.count 0 (omega (arith, m.size)) ∙ rw all at m.count);
-        listed = subst (λ (f : ℕ → ℕ). (i : ℕ) → i < length (slots_of t f) → get_or counted (1024 + i) 0 ≡ get_or (slots_of t f) i 0) held-is (λ i l.
-            let here : i < b.count = omega (arith, m.count, ap (λ (n : ℕ). length (those (is_slot t h) n)) all) in
-            counted-other (1024 + i) (omega (arith, passes.points.high, made-few t h p b m)) ∙ rw all at (m.listed i here));
+        held = λ q l. rw (upto_held q) (held_below t.words.now marks q);
+        task = u.task;
+        place = u.place;
+        variable = u.variable;
+        few = omega (arith, u.few, points_few t.words.now t.checked);
+        listed = u.listed;
+        head = u.head;
       }

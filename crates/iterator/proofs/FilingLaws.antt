@@ -8,8 +8,6 @@ use native.Mathlib.Omega.{arith}
 use borrow.Author.Tests.{eq-eqb, ne_eqb}
 use lib.Dec.{eqb}
 use lib.IntN.{ℤ}
-use Rattle.words.specs.declared.Found.{Found}
-use Rattle.words.specs.declared.Found.TheVariants.{Nothing, At}
 use Rattle.words.specs.First.{unless, or_else, first_bad}
 use Rattle.words.proofs.Bools.{clash}
 use Rattle.words.proofs.FirstLaws.{stop, first_bad-smallest, smallest-first_bad}
@@ -20,6 +18,7 @@ use Rattle.table.specs.declared.Point.TheVariants.{End, Assign, Test, Lock, Unlo
 use Rattle.proposer.specs.Passes.{code_of, files_by, files_at, slot_of, written_to}
 use Rattle.proposer.proofs.SlotLaws.{slot-files, slot-code}
 use Rattle.iterator.specs.Plan.{code_at, is_at, is_assign, slot_if, is_slot}
+use Rattle.std.specs.Prelude.{Option, None, Some}
 
 -- ---- assignments are filed, under the head of what they write
 pub files-assign : (t : List ℤ) (x : Point) (u s c : ℕ) → is_assign x ≡ true → files_by t x u s c ≡ eqb (code_of t u s (written_to x)) c
@@ -43,20 +42,20 @@ pub first_bad-same : (f : ℕ → Bool) (p : ℕ) → f p ≡ true → first_bad
 unfolding first_bad or_else unless
 first_bad-same f p e = rw e (same (first_bad f p))
   where
-    same : (x : Found) → or_else x Nothing ≡ x
-    same Nothing = refl
-    same (At q) = refl
+    same : (x : Option ℕ) → or_else x None ≡ x
+    same None = refl
+    same (Some q) = refl
 
-pub first_bad-here : (f : ℕ → Bool) (p n : ℕ) → p < n → first_bad f p ≡ Nothing → f p ≡ false → first_bad f n ≡ At p
+pub first_bad-here : (f : ℕ → Bool) (p n : ℕ) → p < n → first_bad f p ≡ None → f p ≡ false → first_bad f n ≡ Some p
 first_bad-here f p n l none e = sym (stop (record { within = omega arith; none = none }) l e)
 
-pub first_bad-stays : (f : ℕ → Bool) (p n q : ℕ) → p ≤ n → first_bad f p ≡ At q → first_bad f n ≡ At q
+pub first_bad-stays : (f : ℕ → Bool) (p n q : ℕ) → p ≤ n → first_bad f p ≡ Some q → first_bad f n ≡ Some q
 first_bad-stays f p n q l e =
     let s = first_bad-smallest f p q e in
     smallest-first_bad f n q (record { below = omega (arith, s.below); fails = s.fails; earlier = s.earlier })
 
 -- ---- where writes are filed there is a slot
-pub slot_is : (t : List ℤ) (h : ℕ → ℕ) (c q : ℕ) → slot_of t h c ≡ At q → is_slot t h q ≡ true
+pub slot_is : (t : List ℤ) (h : ℕ → ℕ) (c q : ℕ) → slot_of t h c ≡ Some q → is_slot t h q ≡ true
 unfolding is_slot slot_if is_at
 slot_is t h c q found = by (is_assign (point_of (points_of t) q)) refl
   where
@@ -82,8 +81,8 @@ module _ (t : List ℤ) (h : ℕ → ℕ) where
 
     module _ (below : p < (sizes_of t).points) where
       -- the first under its head
-      module _ (first : first_bad (apart (code_at t h p)) p ≡ Nothing) where
-        pub first_slot : slot_of t h (code_at t h p) ≡ At p
+      module _ (first : first_bad (apart (code_at t h p)) p ≡ None) where
+        pub first_slot : slot_of t h (code_at t h p) ≡ Some p
         unfolding slot_of
         first_slot = first_bad-here (apart (code_at t h p)) p (sizes_of t).points below first apart-here
 
@@ -91,8 +90,8 @@ module _ (t : List ℤ) (h : ℕ → ℕ) where
         first-is = slot_is t h (code_at t h p) p first_slot
 
       -- one after the first
-      module _ (q : ℕ) (later : first_bad (apart (code_at t h p)) p ≡ At q) where
-        pub later-slot : slot_of t h (code_at t h p) ≡ At q
+      module _ (q : ℕ) (later : first_bad (apart (code_at t h p)) p ≡ Some q) where
+        pub later-slot : slot_of t h (code_at t h p) ≡ Some q
         unfolding slot_of
         later-slot = first_bad-stays (apart (code_at t h p)) p (sizes_of t).points q (omega arith) later
 

@@ -1,123 +1,124 @@
--- Rows in arrays, met a variable at a time in the place of the first: the loop that does it, and that it gives the definition's row, or none.
+-- Rows that are met a variable at a time: the row that the definition gives, or none.
 -- Assumes nothing.
-use Prim.Native.Nat.{ℕ, ◌+◌, ◌<◌, ◌≤◌}
-use mathlib.Core.Path.{◌≡◌, refl, sym, ap, ◌∙◌}
-use mathlib.Core.Bool.{true, false}
-use mathlib.Core.List.{List}
-use native.Mathlib.Decide.{ℕ_discrete}
-use native.Mathlib.Omega.{arith}
-use lib.IntN.{ℤ, pos}
-use lib.ListN.{length, set}
+use Rattle.std.proofs.Common.{◌≡◌, ℕ, suc, ◌+◌, ◌<◌, ◌≤◌, Bool, true, false, List, [], ◌∷◌, ℤ, pos, length, refl, sym, ap, subst, ◌∙◌, arith}
+use Rattle.std.proofs.lemmas.List.{ext_get_or}
+use Rattle.std.specs.Prelude.{Option, None, Some}
+use Rattle.std.specs.Option.{option_map}
+use Rattle.std.specs.Int.{int_min, int_max}
+use Rattle.std.specs.Int.Signed.{le_z}
 use lib.Signed.{≤ℤ_refl}
 use Rattle.words.specs.Words.{word_of}
-use Rattle.words.specs.First.{all_below}
-use Rattle.words.proofs.FirstLaws.{Checked, check, checks, checked, fails-at}
-use Rattle.words.proofs.PartLaws.{part-word}
-use Rattle.interval.specs.Integer.{min_z, max_z}
+use Rattle.words.specs.Tabulate.{tabulate}
+use Rattle.words.proofs.FillLaws.{length-tabulate, get_d_tabulate}
+use Rattle.words.proofs.FirstLaws.{each-all_below, fails-at}
+use Rattle.interval.specs.Interval.{from_to, span}
+use Rattle.interval.specs.declared.Interval.{Interval}
 use Rattle.interval.proofs.IntegerLaws.{min-is, max-is}
-use Rattle.analysis.specs.Rows.{Row, own_of, none, some, row_if, each}
-use Rattle.analysis.specs.Arrays.{row_in}
-use Rattle.analysis.proofs.RowLaws.{each-is, slots-within}
+use Rattle.analysis.specs.declared.Row.{Row}
+use Rattle.analysis.specs.Rows.{row_of, row_if, each_rest, each}
+use Rattle.analysis.proofs.RowLaws.{each-is}
 use Rattle.rules.specs.Outcomes.{meet_rows_of}
-use Rattle.rules.proofs.RowLaws.{Meets, meet-some, met_of, written_last, written-first, written-neither}
-use Rattle.iterator.specs.Leave.{met_low, met_high, meets_at, MetTo}
-use Rattle.iterator.proofs.TabulateLaws.{all_below-same}
+use Rattle.rules.proofs.RowLaws.{Meets, meet-some}
+use Rattle.proposer.specs.Widen.{trimmed_of, place_in}
+use Rattle.proposer.specs.Passes.{row_in}
+use Rattle.iterator.specs.declared.places.Rows.{Rows}
+use Rattle.iterator.specs.declared.given.Given.{Given}
+use Rattle.iterator.specs.Arrays.{rows_by, rows_in}
+use Rattle.iterator.specs.Given.{table_of}
+use Rattle.table.specs.Layout.{sizes_of}
+use Rattle.table.specs.declared.Sizes.{Sizes}
 
--- ---- the loop, with l the array a as it is when k variables are met
-pub record Met (a b : List ℤ) (n k : ℕ) (l : List ℤ) : Type 0 where
-  pub tests : Checked (meets_at a b) n k
-  pub done : MetTo a b k l
-  pub low : (v : ℕ) → k ≤ v → v < 16 → word_of l v ≡ word_of a v
-  pub high : (v : ℕ) → k ≤ v → v < 16 → word_of l (v + 16) ≡ word_of a (v + 16)
+-- ---- an interval, where it is one
+pub between_some : (lo hi : ℤ) {x : Interval} → from_to lo hi ≡ Some x → (le_z lo hi ≡ true) × (x ≡ record { low = lo; high = hi })
+between_some lo hi {x} e = by (le_z lo hi) refl
+  where
+    by : (b : Bool) → le_z lo hi ≡ b → (le_z lo hi ≡ true) × (x ≡ record { low = lo; high = hi })
+    by true f = (f, let g : span lo hi ≡ Some x = rw f at e in cc)
+    by false f = let g : ◌≡◌ {A = Option Interval} None (Some x) = rw f at e in absurd cc
 
-pub meet : {a b : List ℤ} {n : ℕ} → Met a b n 0 a
-meet =
-    record {
-      tests = check;
-      done = record { low = λ v h. absurd (omega arith); high = λ v h. absurd (omega arith) };
-      low = λ v h j. refl;
-      high = λ v h j. refl;
-    }
+pub between_none : (lo hi : ℤ) → from_to lo hi ≡ None → le_z lo hi ≡ false
+between_none lo hi e = by (le_z lo hi) refl
+  where
+    by : (b : Bool) → le_z lo hi ≡ b → le_z lo hi ≡ false
+    by true f = let g : span lo hi ≡ None = rw f at e in absurd cc
+    by false f = f
 
-module _ {a b : List ℤ} {n k : ℕ} {l : List ℤ} (s : Met a b n k l) (below : k < n) (few : n ≤ 16) where
-  low-here : met_low l b k ≡ met_low a b k
-  low-here = ap (λ (z : ℤ). max_z z (word_of b k)) (s.low k (omega arith) (omega arith))
+-- ---- word by word
+each-length : (f : ℤ → ℤ → ℤ) (l m : List ℤ) → length m ≡ length l → length (each f l m) ≡ length l
+unfolding each each_rest
+each-length f [] [] e = refl
+each-length f [] (y ∷ m) e = absurd (omega arith)
+each-length f (x ∷ l) [] e = absurd (omega arith)
+each-length f (x ∷ l) (y ∷ m) e = ap suc (each-length f l m (omega arith))
 
-  high-here : met_high l b k ≡ met_high a b k
-  high-here = ap (λ (z : ℤ). min_z z (word_of b (k + 16))) (s.high k (omega arith) (omega arith))
+each-tabulate : (f : ℤ → ℤ → ℤ) → f (pos 0) (pos 0) ≡ pos 0 → (g h : ℕ → ℤ) (n : ℕ) → each f (tabulate g n) (tabulate h n) ≡ tabulate (λ v. f (g v) (h v)) n
+each-tabulate f zero-is g h n =
+    let k : ℕ → ℤ = λ v. f (g v) (h v) in
+    let long = each-length f (tabulate g n) (tabulate h n) (length-tabulate h n ∙ sym (length-tabulate g n)) ∙ length-tabulate g n in
+    ext_get_or (pos 0) _ _ (long ∙ sym (length-tabulate k n)) (λ v b.
+    let below : v < n = omega arith in
+    each-is f zero-is (tabulate g n) (tabulate h n) v
+    ∙ rw (get_d_tabulate g n v (pos 0) below, get_d_tabulate h n v (pos 0) below, get_d_tabulate k n v (pos 0) below) refl)
 
-  -- the test as the code makes it, of the array as it is
-  test-here : meets_at l b k ≡ meets_at a b k
-  test-here = rw (low-here, high-here) refl
+-- ---- the first n intervals of r and s
+module _ (n : ℕ) (r s : Row) where
+  abbrev pub low_in : ℕ → ℤ
+  low_in v = int_max (word_of r.lows v) (word_of s.lows v)
 
-  pub meets-fail : meets_at l b k ≡ false → false ≡ all_below (meets_at a b) n
-  meets-fail e = sym (fails-at (meets_at a b) n k below (sym test-here ∙ e))
+  abbrev pub high_in : ℕ → ℤ
+  high_in v = int_min (word_of r.highs v) (word_of s.highs v)
 
-  abbrev after : List ℤ
-  after = set (set l k (met_low l b k)) (k + 16) (met_high l b k)
+  meets-at : (v : ℕ) → v < n → Meets (trimmed_of n r) (trimmed_of n s) v ≡ le_z (low_in v) (high_in v)
+  unfolding trimmed_of
+  meets-at v l =
+      meet-some (word_of (tabulate (word_of r.lows) n) v) (word_of (tabulate (word_of r.highs) n) v) (word_of (tabulate (word_of s.lows) n) v)
+      (word_of (tabulate (word_of s.highs) n) v)
+      ∙ rw (
+        get_d_tabulate (word_of r.lows) n v (pos 0) l,
+        get_d_tabulate (word_of r.highs) n v (pos 0) l,
+        get_d_tabulate (word_of s.lows) n v (pos 0) l,
+        get_d_tabulate (word_of s.highs) n v (pos 0) l,
+      ) refl
 
-  kept : length l ≡ 32 → {i : ℕ} → i < 32 → (i ≡ k → ⊥) → (i ≡ k + 16 → ⊥) → word_of after i ≡ word_of l i
-  kept size {i} h d e = written-neither l k (k + 16) {i = i} (met_low l b k) (met_high l b k) (omega arith) e d
-
-  pub meets-next : length l ≡ 32 → meets_at l b k ≡ true → Met a b n (k + 1) after
-  meets-next size e =
-      record {
-        tests = checks s.tests below (sym test-here ∙ e);
-        done = record {
-          low = λ v h. elim (ℕ_discrete v k) [
-            | yes q ↦ rw q (written-first l k (k + 16) {i = k} (met_low l b k) (met_high l b k) (omega arith) (λ r. omega arith) refl ∙ low-here)
-            | no d ↦ kept size {i = v} (omega arith) d (λ r. omega arith) ∙ s.done.low v (omega arith)
-          ];
-          high = λ v h. elim (ℕ_discrete v k) [
-            | yes q ↦ rw q (written_last l k (k + 16) {i = k + 16} (met_low l b k) (met_high l b k) (omega arith) refl ∙ high-here)
-            | no d ↦ kept size {i = v + 16} (omega arith) (λ r. omega arith) (λ r. d (omega arith)) ∙ s.done.high v (omega arith)
-          ];
-        };
-        low = λ v h j. kept size {i = v} (omega arith) (λ r. omega arith) (λ r. omega arith) ∙ s.low v (omega arith) j;
-        high = λ v h j. kept size {i = v + 16} (omega arith) (λ r. omega arith) (λ r. omega arith) ∙ s.high v (omega arith) j;
-      }
-
-pub met : {a b : List ℤ} {n k : ℕ} {l : List ℤ} → Met a b n k l → n ≤ k → (true ≡ all_below (meets_at a b) n) × MetTo a b n l
-met {a} {b} {n} {k} {l} s h = (
-  sym (checked s.tests h),
-  record { low = λ v j. s.done.low v (omega (arith, s.tests.within)); high = λ v j. s.done.high v (omega (arith, s.tests.within)) },
-)
-
--- ---- what a row in an array has of the row x
-module _ (ws : List ℤ) (x : Row) (e : row_in ws ≡ own_of x) (v : ℕ) (h : v < 16) where
-  pub own-low : word_of ws v ≡ word_of x.lows v
-  own-low =
-      ap (λ (i : ℕ). word_of ws i) (omega arith) ∙ sym (part-word ws 0 16 v h) ∙ ap (λ (r : Row). word_of r.lows v) e ∙ slots-within x.lows v h
-
-  pub own-high : word_of ws (v + 16) ≡ word_of x.highs v
-  own-high =
-      ap (λ (i : ℕ). word_of ws i) (omega arith) ∙ sym (part-word ws 16 16 v h) ∙ ap (λ (r : Row). word_of r.highs v) e ∙ slots-within x.highs v h
-
--- ---- the row x of a met with the row y of b
-module _ (a b : List ℤ) (n : ℕ) (x y : Row) (few : n ≤ 16) (e : row_in a ≡ own_of x) (f : row_in b ≡ own_of y) where
-  meets-are : all_below (meets_at a b) n ≡ all_below (Meets x y) n
-  meets-are = all_below-same (meets_at a b) (Meets x y) n (λ v h.
-      let j : v < 16 = omega arith in
-      rw (own-low a x e v j, own-low b y f v j, own-high a x e v j, own-high b y f v j)
-      (sym (meet-some (word_of x.lows v) (word_of x.highs v) (word_of y.lows v) (word_of y.highs v))))
-
-  pub meet-none : all_below (meets_at a b) n ≡ false → meet_rows_of n x y ≡ none
+  pub met-none : (v : ℕ) → v < n → le_z (low_in v) (high_in v) ≡ false → meet_rows_of n (trimmed_of n r) (trimmed_of n s) ≡ None
   unfolding meet_rows_of row_if
-  meet-none g = rw (sym meets-are ∙ g) refl
+  met-none v l e = rw (fails-at (Meets (trimmed_of n r) (trimmed_of n s)) n v l (meets-at v l ∙ e)) refl
 
-  pub meet-is : all_below (meets_at a b) n ≡ true → meet_rows_of n x y ≡ some (met_of x.lows x.highs y.lows y.highs)
-  unfolding meet_rows_of row_if
-  meet-is g = rw (sym meets-are ∙ g) refl
+  pub met-some : ((v : ℕ) → v < n → le_z (low_in v) (high_in v) ≡ true)
+      → meet_rows_of n (trimmed_of n r) (trimmed_of n s) ≡ Some (row_of (tabulate low_in n) (tabulate high_in n))
+  unfolding meet_rows_of row_if trimmed_of
+  met-some all =
+      rw (
+        each-all_below (Meets (trimmed_of n r) (trimmed_of n s)) n (λ v l. meets-at v l ∙ all v l),
+        each-tabulate int_max (max-is (≤ℤ_refl (pos 0))) (word_of r.lows) (word_of s.lows) n,
+        each-tabulate int_min (min-is (≤ℤ_refl (pos 0))) (word_of r.highs) (word_of s.highs) n,
+      ) refl
 
-  module _ (l : List ℤ) (m : MetTo a b n l) (v : ℕ) (h : v < n) where
-    pub met-low : word_of (row_in l).lows v ≡ word_of (each max_z x.lows y.lows) v
-    met-low =
-        let j : v < 16 = omega arith in
-        part-word l 0 16 v j ∙ ap (λ (i : ℕ). word_of l i) (omega arith) ∙ m.low v h
-        ∙ rw (own-low a x e v j, own-low b y f v j) (sym (each-is max_z (max-is (≤ℤ_refl (pos 0))) x.lows y.lows v))
+-- a row and the rest row at the place k, as code met them: n variables, by what it knows of both numbers
+met-rest : {n m k j : ℕ} (c : ℕ) (rows : Rows) (row rest : Row) (met : Option Row) → n ≡ m → k ≡ j → m ≤ 16 → k < c
+    → ((i c : ℕ) → i ≤ 16 → k < c → trimmed_of i rest ≡ row_in i (place_in (rows_by i c rows) k))
+    → option_map (trimmed_of n) met ≡ meet_rows_of n (trimmed_of n row) (trimmed_of n rest)
+    → meet_rows_of m (trimmed_of m row) (row_in m (place_in (rows_by m c rows) j)) ≡ option_map (trimmed_of m) met
+met-rest {n} {m} {k} {j} c rows row rest met e f few below read gave =
+    ap (λ (i : ℕ). meet_rows_of m (trimmed_of m row) (row_in m (place_in (rows_by m c rows) i))) (sym f)
+    ∙ ap (λ (r : Row). meet_rows_of m (trimmed_of m row) r) (sym (read m c few below))
+    ∙ sym (subst (λ (i : ℕ). option_map (trimmed_of i) met ≡ meet_rows_of i (trimmed_of i row) (trimmed_of i rest)) e gave)
 
-    pub met-high : word_of (row_in l).highs v ≡ word_of (each min_z x.highs y.highs) v
-    met-high =
-        let j : v < 16 = omega arith in
-        part-word l 16 16 v j ∙ ap (λ (i : ℕ). word_of l i) (omega arith) ∙ m.high v h
-        ∙ rw (own-high a x e v j, own-high b y f v j) (sym (each-is min_z (min-is (≤ℤ_refl (pos 0))) x.highs y.highs v))
+-- the rest row of the mutex m, by the sizes that code reads
+module _ (g : Given) (rows : Rows) (row rest : Row) (met : Option Row) (m : ℕ) where
+  abbrev sizes : Sizes
+  sizes = sizes_of (table_of g)
+
+  abbrev read_sizes : Sizes
+  read_sizes = g.table.now.sizes
+
+  pub rest-met : m < sizes.mutexes
+      → ((i c : ℕ) → i ≤ 16 → read_sizes.points + m < c → trimmed_of i rest ≡ row_in i (place_in (rows_by i c rows) (read_sizes.points + m)))
+      → option_map (trimmed_of read_sizes.variables) met ≡ meet_rows_of read_sizes.variables (trimmed_of read_sizes.variables row) (trimmed_of read_sizes.variables rest)
+      → meet_rows_of sizes.variables (trimmed_of sizes.variables row) (row_in sizes.variables (place_in (rows_in (table_of g) rows) (sizes.points + m)))
+      ≡ option_map (trimmed_of sizes.variables) met
+  rest-met mutex read gave =
+      let small = g.small in
+      let few : sizes.variables ≤ 16 = omega (arith, small.variables-are, small.variables) in
+      let below : read_sizes.points + m < sizes.points + sizes.mutexes = omega (arith, small.points-are) in
+      met-rest (sizes.points + sizes.mutexes) rows row rest met small.variables-are (ap (λ (k : ℕ). k + m) small.points-are) few below read gave

@@ -1,26 +1,25 @@
 -- An interval of one variable taken in at a place: only the two ends of that variable are looked at, and only they can move.
 -- Assumes nothing.
-use Prim.Native.Nat.{ℕ, ◌+◌, ◌<◌}
-use mathlib.Core.Path.{◌≡◌, refl, sym, ap, ◌∙◌}
-use mathlib.Core.Bool.{Bool, true, false, ◌&&◌}
-use mathlib.Core.List.{List, [], ◌∷◌}
+use Rattle.std.proofs.Common.{◌≡◌, ℕ, ◌<◌, Bool, true, false, ◌&&◌, List, ℤ, pos, length, get_or, set, refl, sym, ◌∙◌, arith}
+use Rattle.std.proofs.lemmas.List.{get_or-set_same, get_or-set_other}
+use Rattle.std.specs.Prelude.{Option, None, Some}
+use Rattle.std.specs.Option.{option_map}
+use Rattle.std.specs.Int.Signed.{le_z}
 use native.Mathlib.Decide.{ℕ_discrete}
-use native.Mathlib.Omega.{arith}
-use lib.IntN.{ℤ, pos}
-use lib.ListN.{length, set, length-set}
-use lib.Seq.{get_or-set_same, get_or-set_other}
-use lib.Signed.{le_z, ≤ℤ_refl}
-use Rattle.words.specs.Words.{word_of, part_of}
+use lib.Signed.{≤ℤ_refl}
+use Rattle.words.specs.Words.{word_of}
 use Rattle.words.proofs.FirstLaws.{each-all_below, fails-at}
-use Rattle.words.proofs.PartLaws.{part-word}
+use Rattle.words.proofs.FillLaws.{length-tabulate, get_d_tabulate}
+use Rattle.interval.specs.declared.Interval.{Interval}
 use Rattle.interval.proofs.IntegerLaws.{le-true}
-use Rattle.analysis.specs.Rows.{Row, row_of, some}
-use Rattle.proposer.specs.Widen.{low_to, high_to, covers_of, widened_of, place_in, take_if}
+use Rattle.analysis.specs.declared.Row.{Row}
+use Rattle.analysis.specs.Rows.{row_of}
+use Rattle.proposer.specs.Widen.{low_to, high_to, covers_of, trimmed_of, widened_of, place_in, take_in}
 use Rattle.proposer.specs.Passes.{with_at, take_both}
-use Rattle.iterator.specs.Arrays.{lows_at, highs_at, is_there, row_at, places_in, Room}
-use Rattle.iterator.specs.Written.{low_by, high_by}
-use Rattle.iterator.proofs.PlacesLaws.{take-old, both_some}
-use Rattle.iterator.proofs.StoreLaws.{written_one, rows_apart, rows-room, lows-long, highs-long, widened_is}
+use Rattle.iterator.specs.declared.places.Rows.{Rows}
+use Rattle.iterator.specs.Arrays.{one_of, rows_by}
+use Rattle.iterator.proofs.TabulateLaws.{tabulate-one}
+use Rattle.iterator.proofs.PlaceLaws.{place_is, takes-held, takes-moved}
 
 -- an end that needn't move stays
 low-stays : (ts : List ℤ) (z : ℤ) → low_to ts z z ≡ z
@@ -31,79 +30,94 @@ high-stays : (ts : List ℤ) (z : ℤ) → high_to ts z z ≡ z
 unfolding high_to
 high-stays ts z = rw (le-true (≤ℤ_refl z)) refl
 
--- a row with another interval at v is held by the row itself where that interval is
-module _ (n v : ℕ) (r : Row) (lo hi : ℤ) (below : v < n) (lows : v < length r.lows) (highs : v < length r.highs) where
-  covers_one : covers_of n r (with_at r v (row_of (lo ∷ []) (hi ∷ []))) ≡ le_z (word_of r.lows v) lo && le_z hi (word_of r.highs v)
+-- ---- a row of n intervals, and itself with another interval at v
+module _ (n v : ℕ) (r : Row) (x : Interval) (below : v < n) (lows : length r.lows ≡ n) (highs : length r.highs ≡ n) where
+  covers_one : covers_of n r (with_at r v (one_of x)) ≡ le_z (word_of r.lows v) x.low && le_z x.high (word_of r.highs v)
   unfolding covers_of
-  covers_one = by (le_z (word_of r.lows v) lo && le_z hi (word_of r.highs v)) refl
+  covers_one = by (le_z (word_of r.lows v) x.low && le_z x.high (word_of r.highs v)) refl
     where
       test : ℕ → Bool
-      test i = le_z (word_of r.lows i) (word_of (set r.lows v lo) i) && le_z (word_of (set r.highs v hi) i) (word_of r.highs i)
+      test i = le_z (word_of r.lows i) (word_of (set r.lows v x.low) i) && le_z (word_of (set r.highs v x.high) i) (word_of r.highs i)
 
-      test_at : test v ≡ le_z (word_of r.lows v) lo && le_z hi (word_of r.highs v)
-      test_at = rw (get_or-set_same r.lows v lo (pos 0) lows, get_or-set_same r.highs v hi (pos 0) highs) refl
+      test_at : test v ≡ le_z (word_of r.lows v) x.low && le_z x.high (word_of r.highs v)
+      test_at = rw (get_or-set_same r.lows v x.low (pos 0) (omega arith), get_or-set_same r.highs v x.high (pos 0) (omega arith)) refl
 
       test-other : (i : ℕ) → (i ≡ v → ⊥) → test i ≡ true
       test-other i d = rw (
-        get_or-set_other r.lows v i lo (pos 0) d,
-        get_or-set_other r.highs v i hi (pos 0) d,
+        get_or-set_other r.lows v i x.low (pos 0) d,
+        get_or-set_other r.highs v i x.high (pos 0) d,
         le-true (≤ℤ_refl (word_of r.lows i)),
         le-true (≤ℤ_refl (word_of r.highs i)),
       ) refl
 
-      by : (b : Bool) → le_z (word_of r.lows v) lo && le_z hi (word_of r.highs v) ≡ b → covers_of n r (with_at r v (row_of (lo ∷ []) (hi ∷ []))) ≡ b
+      by : (b : Bool) → le_z (word_of r.lows v) x.low && le_z x.high (word_of r.highs v) ≡ b → covers_of n r (with_at r v (one_of x)) ≡ b
       by true e = each-all_below test n (λ i l. elim (ℕ_discrete i v) [
         | yes q ↦ rw q (test_at ∙ e)
         | no d ↦ test-other i d
       ])
       by false e = fails-at test n v below (test_at ∙ e)
 
-module _ (n c : ℕ) (ts ws : List ℤ) (k v : ℕ) (lo hi : ℤ) (room : Room n c ws) (below : k < c) (variable : v < n) (there : is_there ws k ≡ true) where
-  abbrev new : Row
-  new = with_at (row_at n c ws k) v (row_of (lo ∷ []) (hi ∷ []))
+  module _ (ts : List ℤ) where
+    abbrev moved_row : Row
+    moved_row = row_of (set r.lows v (low_to ts (word_of r.lows v) x.low)) (set r.highs v (high_to ts (word_of r.highs v) x.high))
 
-  abbrev lows : List ℤ
-  lows = part_of ws (lows_at n c k) n
+    widened_one : widened_of n ts r (with_at r v (one_of x)) ≡ moved_row
+    unfolding widened_of
+    widened_one =
+        let low : ℕ → ℤ = λ i. low_to ts (word_of r.lows i) (word_of (set r.lows v x.low) i) in
+        let high : ℕ → ℤ = λ i. high_to ts (word_of r.highs i) (word_of (set r.highs v x.high) i) in
+        rw (
+          tabulate-one r.lows n (pos 0) low v lows below (λ i b d. rw (get_or-set_other r.lows v i x.low (pos 0) d) (low-stays ts _)),
+          tabulate-one r.highs n (pos 0) high v highs below (λ i b d. rw (get_or-set_other r.highs v i x.high (pos 0) d) (high-stays ts _)),
+          get_or-set_same r.lows v x.low (pos 0) (omega arith),
+          get_or-set_same r.highs v x.high (pos 0) (omega arith),
+        ) refl
 
-  abbrev highs : List ℤ
-  highs = part_of ws (highs_at n c k) n
+-- ---- at the place k of rows
+module _ (n c : ℕ) (rows : Rows) (ts : List ℤ) (k v : ℕ) (x : Interval) (place : k < c) where
+  abbrev Taken : Rows → Type 0
+  Taken after = rows_by n c after ≡ take_both (Some (one_of x)) (place_in (rows_by n c rows) k) n ts (rows_by n c rows) k v
 
-  covers-is : covers_of n (row_at n c ws k) new ≡ le_z (word_of ws (lows_at n c k + v)) lo && le_z hi (word_of ws (highs_at n c k + v))
-  covers-is =
-      covers_one n v (row_at n c ws k) lo hi variable (omega (arith, lows-long n c ws k room below)) (omega (arith, highs-long n c ws k room below))
-      ∙ rw (part-word ws (lows_at n c k) n v variable, part-word ws (highs_at n c k) n v variable) refl
+  both : (m : Option Row) → get_or rows.at k None ≡ m
+      → take_both (Some (one_of x)) (place_in (rows_by n c rows) k) n ts (rows_by n c rows) k v
+      ≡ take_both (Some (one_of x)) (option_map (trimmed_of n) m) n ts (rows_by n c rows) k v
+  both m e = rw (place_is (trimmed_of n) c rows.at rows.moved k place, e) refl
 
-  taken_is : (b : Bool) → le_z (word_of ws (lows_at n c k + v)) lo && le_z hi (word_of ws (highs_at n c k + v)) ≡ b
-      → take_if b n ts (places_in n c ws) k (row_at n c ws k) new
-      ≡ take_both (some (row_of (lo ∷ []) (hi ∷ []))) (place_in (places_in n c ws) k) n ts (places_in n c ws) k v
-  taken_is b e =
-      sym (both_some n c ts ws k below (row_of (lo ∷ []) (hi ∷ [])) v there ∙ take-old n c ts ws k below new there
-      ∙ ap (λ (t : Bool). take_if t n ts (places_in n c ws) k (row_at n c ws k) new) (covers-is ∙ e))
+  pub takes_none : get_or rows.at k None ≡ None → Taken rows
+  unfolding take_both
+  takes_none e = sym (both None e)
 
-  pub held_at : {a b : ℕ} → a ≡ lows_at n c k → b ≡ highs_at n c k → le_z (word_of ws (a + v)) lo && le_z hi (word_of ws (b + v)) ≡ true
-      → places_in n c ws ≡ take_both (some (row_of (lo ∷ []) (hi ∷ []))) (place_in (places_in n c ws) k) n ts (places_in n c ws) k v
-  unfolding take_if
-  held_at p q e = taken_is true (rw (p, q) at e)
+  module _ {row : Row} (e : get_or rows.at k None ≡ Some row) (below : v < n) where
+    -- the row is looked at in its own slots
+    lows-long : length (trimmed_of n row).lows ≡ n
+    unfolding trimmed_of
+    lows-long = length-tabulate (word_of row.lows) n
 
-  -- the ends of v move, and no other
-  moved-low : (i : ℕ) → i < n → (i ≡ v → ⊥) → word_of ws (lows_at n c k + i) ≡ low_by ts lows (set lows v lo) i
-  moved-low i l d = sym (rw (get_or-set_other lows v i lo (pos 0) d, low-stays ts (word_of lows i)) (part-word ws (lows_at n c k) n i l))
+    highs-long : length (trimmed_of n row).highs ≡ n
+    unfolding trimmed_of
+    highs-long = length-tabulate (word_of row.highs) n
 
-  moved-high : (i : ℕ) → i < n → (i ≡ v → ⊥) → word_of ws (highs_at n c k + i) ≡ high_by ts highs (set highs v hi) i
-  moved-high i l d = sym (rw (get_or-set_other highs v i hi (pos 0) d, high-stays ts (word_of highs i)) (part-word ws (highs_at n c k) n i l))
+    low-at : word_of (trimmed_of n row).lows v ≡ word_of row.lows v
+    unfolding trimmed_of
+    low-at = get_d_tabulate (word_of row.lows) n v (pos 0) below
 
-  pub moved_at : {a b : ℕ} {l : List ℤ} → a ≡ lows_at n c k → b ≡ highs_at n c k → le_z (word_of ws (a + v)) lo && le_z hi (word_of ws (b + v)) ≡ false
-      → l ≡ set (set ws (a + v) (low_to ts (word_of ws (a + v)) lo)) (b + v) (high_to ts (word_of ws (b + v)) hi)
-      → places_in n c (set l 0 (pos 1)) ≡ take_both (some (row_of (lo ∷ []) (hi ∷ []))) (place_in (places_in n c ws) k) n ts (places_in n c ws) k v
-  unfolding take_if widened_of
-  moved_at p q e m =
-      let low : low_to ts (word_of ws (lows_at n c k + v)) lo ≡ low_by ts lows (set lows v lo) v
-      = sym (rw (get_or-set_same lows v lo (pos 0) (omega (arith, lows-long n c ws k room below)), part-word ws (lows_at n c k) n v variable) refl) in
-      let high : high_to ts (word_of ws (highs_at n c k + v)) hi ≡ high_by ts highs (set highs v hi) v
-      = sym (rw (get_or-set_same highs v hi (pos 0) (omega (arith, highs-long n c ws k room below)), part-word ws (highs_at n c k) n v variable) refl) in
-      rw (m, p, q)
-      (widened_is n c k _ _ ws _ room below (simp length-set)
-      (written_one n (lows_at n c k) (highs_at n c k) _ _ ws v _ _ variable (rows_apart n c ws k room below) (rows-room n c ws k room below)
-      low high moved-low moved-high)
-      there
-      ∙ taken_is false (rw (p, q) at e))
+    high_at : word_of (trimmed_of n row).highs v ≡ word_of row.highs v
+    unfolding trimmed_of
+    high_at = get_d_tabulate (word_of row.highs) n v (pos 0) below
+
+    covers-is : covers_of n (trimmed_of n row) (with_at (trimmed_of n row) v (one_of x)) ≡ le_z (word_of row.lows v) x.low && le_z x.high (word_of row.highs v)
+    covers-is = covers_one n v (trimmed_of n row) x below lows-long highs-long ∙ rw (low-at, high_at) refl
+
+    taken : (after : Rows) → rows_by n c after ≡ take_in n ts (rows_by n c rows) k (with_at (trimmed_of n row) v (one_of x)) → Taken after
+    unfolding take_both
+    taken after f = f ∙ sym (both (Some row) e)
+
+    pub takes-within : le_z (word_of row.lows v) x.low && le_z x.high (word_of row.highs v) ≡ true → Taken rows
+    takes-within held = taken rows (takes-held _ _ _ _ _ place n ts _ e (covers-is ∙ held))
+
+    pub takes_past : (next : Row) → le_z (word_of row.lows v) x.low && le_z x.high (word_of row.highs v) ≡ false
+        → trimmed_of n next ≡ row_of (set (trimmed_of n row).lows v (low_to ts (word_of row.lows v) x.low)) (set (trimmed_of n row).highs v (high_to ts (word_of row.highs v) x.high))
+        → Taken (record { at = set rows.at k (Some next); moved = true })
+    takes_past next held put =
+        taken _ (takes-moved (trimmed_of n) c rows.at rows.moved k place n ts _ e (covers-is ∙ held)
+        (put ∙ rw (← low-at, ← high_at) (sym (widened_one n v (trimmed_of n row) x below lows-long highs-long ts))))

@@ -1,149 +1,156 @@
--- The words of the proposal from the arrays that the passes leave: they are what the pieces of code write, and there is room for them.
+-- What is read to be written: the entry under a head, the heads of the entries, their words and ends.
 -- Assumes nothing.
-use Prim.Native.Nat.{ℕ, ◌+◌, ◌*◌, ◌<◌, ◌≤◌}
+use Prim.Native.Nat.{ℕ, zero, suc, ◌+◌, ◌<◌, ◌≤◌}
 use mathlib.Core.Path.{◌≡◌, refl, sym, ap, subst, ◌∙◌}
 use mathlib.Core.Bool.{Bool, true, false}
-use mathlib.Core.List.{List, [], ◌∷◌, ◌++◌, map}
+use mathlib.Core.List.{List, [], ◌∷◌, map}
+use native.Mathlib.Nat.{le_antisymm}
+use native.Mathlib.Numerals.{add-one}
+use native.Mathlib.Decide.{ℕ_discrete}
 use native.Mathlib.Omega.{arith}
+use lib.ListN.{length, get_or, set, take, length-append}
+use Rattle.std.proofs.lemmas.List.Edits.{take-paste}
 use lib.IntN.{ℤ}
-use lib.ListN.{length, get_or, length-append, length-map}
+use lib.Seq.{take-length}
+use Rattle.std.specs.Option.{option_map, is_some as is_there}
+use Rattle.interval.specs.declared.Interval.{Interval}
 use Rattle.words.specs.Words.{word_of}
-use Rattle.words.proofs.FillLaws.{length-tabulate}
+use Rattle.words.specs.Tabulate.{tabulate}
+use Rattle.words.proofs.FillLaws.{tabulate-front}
 use Rattle.table.specs.Layout.{sizes_of}
-use Rattle.table.specs.Passes.{Passes}
-use Rattle.analysis.specs.Rows.{Row, maybe_by}
-use Rattle.proposer.specs.Fold.{concat_below}
-use Rattle.proposer.specs.Walk.{sets_of}
-use Rattle.proposer.specs.Widen.{place_in}
-use Rattle.proposer.specs.Passes.{State}
-use Rattle.proposer.specs.Propose.{held_by, is_some, entry_under, codes_of, head_words, span_of, ends_out, held_out, heads_out, words_of, words_needed}
-use Rattle.proposer.proofs.ThoseLaws.{those-in, chunks-length}
+use Rattle.analysis.specs.declared.Row.{Row}
+use Rattle.analysis.specs.Rows.{row_of}
+use Rattle.proposer.specs.Fold.{concat_below, those_if, those}
+use Rattle.proposer.specs.Widen.{trimmed_of, place_in}
+use Rattle.proposer.specs.Passes.{State, row_in, slot_of}
+use Rattle.proposer.specs.Propose.{entry_by, is_some, entry_under, codes_of, head_words, row_out, span_of, heads_out}
+use Rattle.proposer.proofs.SlotLaws.{slot-below}
+use Rattle.proposer.proofs.ThoseLaws.{those-more, those-same, those-in}
 use Rattle.proposer.proofs.EntryLaws.{codes-few}
-use Rattle.iterator.specs.Arrays.{rows_in, state_in}
-use Rattle.iterator.specs.Plan.{held_in, code_count, Indexed}
-use Rattle.iterator.specs.Write.{Heads, sizes_from, held_if, held_from, head_out, heads_from, ends_of, row_ends, spans_from, ends_from, words_from}
-use Rattle.iterator.proofs.PlacesLaws.{place_in-at}
-use Rattle.iterator.proofs.ConcatLaws.{concat-same, concat-few, tabulate-concat, map-concat}
-use Rattle.iterator.proofs.EndLaws.{ends-few}
-use Rattle.iterator.proofs.HeadLaws.{heads-few}
-use Rattle.iterator.proofs.FilledLaws.{slot-few, Filled, filled}
+use Rattle.iterator.specs.declared.given.Given.{Given}
+use Rattle.iterator.specs.declared.places.State.{State as Kept}
+use Rattle.iterator.specs.Arrays.{one_of, rows_by}
+use Rattle.iterator.specs.Plan.{code_count}
+use Rattle.iterator.specs.Given.{table_of, held_by, state_by}
+use Rattle.iterator.specs.declared.write.Side.{Side}
+use Rattle.iterator.specs.Write.{Puts, ends_of}
+use Rattle.iterator.proofs.TableLaws.{variables_few, points_few}
+use Rattle.iterator.proofs.CutLaws.{Slots, trimmed-front}
+use Rattle.iterator.proofs.PlaceLaws.{place_is}
+use Rattle.iterator.proofs.PutLaws.{puts_none, puts_one, puts_append}
+use Rattle.std.specs.Prelude.{Option, None, Some}
 
-held-maybe : (b : Bool) (r : Row) (s : ℕ) → held_by (maybe_by b r) s ≡ held_if b s
-unfolding held_by maybe_by held_if
-held-maybe true r s = refl
-held-maybe false r s = refl
+-- ---- the entry under the head c, by what the plan has of it
+module _ (g : Given) (s : Kept) (c : ℕ) (below : c < code_count (table_of g)) where
+  pub entry_none : get_or g.plan.now.heads c None ≡ None → entry_under (table_of g) (held_by g) (state_by g s) c ≡ None
+  unfolding entry_by
+  entry_none e = rw (sym (g.planned.head c below) ∙ e)
 
--- five lists put behind one another
-abbrev five : List ℤ → List ℤ → List ℤ → List ℤ → List ℤ → List ℤ
-five a b c d e = a ++ (b ++ (c ++ (d ++ e)))
+  pub entry_some : (q : ℕ) → get_or g.plan.now.heads c None ≡ Some q
+      → entry_under (table_of g) (held_by g) (state_by g s) c ≡ option_map one_of (get_or s.entries.at q None)
+  unfolding entry_by
+  entry_some q e =
+      let found : slot_of (table_of g) (held_by g) c ≡ Some q = sym (g.planned.head c below) ∙ e in
+      rw found (place_is one_of (sizes_of (table_of g)).points s.entries.at s.entries.moved q (slot-below (table_of g) (held_by g) c q found))
 
--- ---- room
-module _ (t : List ℤ) (h : ℕ → ℕ) (rows entries : List ℤ) where
-  abbrev state : State
-  state = state_in t rows entries
+-- ---- the heads below n whose entry is there
+those_rise : (f : ℕ → Bool) (k n : ℕ) → k ≤ n → length (those f k) ≤ length (those f n)
+unfolding those concat_below
+those_rise f k zero l = let e : k ≡ 0 = omega arith in rw e (omega arith)
+those_rise f k (suc n) l = elim (ℕ_discrete k (suc n)) [
+  | yes e ↦ rw e (omega arith)
+  | no d ↦ omega (arith, those_rise f k n (omega arith), length-append (those f n) (those_if (f n) n))
+]
 
-  ends-room : (high : Bool)
-      → length (ends_out t h (state_in t rows entries) (ends_of high)) ≤ ((sizes_of t).points + (sizes_of t).mutexes) * (sizes_of t).variables + (sizes_of t).points
-  ends-room high =
-      omega (
-        arith,
-        length-append (concat_below (row_ends high (sizes_of t).variables (rows_in t rows)) ((sizes_of t).points + (sizes_of t).mutexes))
-            (map (λ c. word_of (ends_of high (span_of t h state c)) 0) (codes_of t h state)),
-        concat-few (row_ends high (sizes_of t).variables (rows_in t rows)) (sizes_of t).variables ((sizes_of t).points + (sizes_of t).mutexes)
-            (λ k l. ends-few high (sizes_of t).variables ((sizes_of t).points + (sizes_of t).mutexes) rows k l),
-        length-map (codes_of t h state) (λ c. word_of (ends_of high (span_of t h state c)) 0),
-        codes-few t h state,
-      )
+module _ (g : Given) (s : Kept) where
+  -- the entry under c is there
+  abbrev filled : ℕ → Bool
+  filled c = is_some (entry_under (table_of g) (held_by g) (state_by g s) c)
 
-  pub words-few : length (words_of t h (state_in t rows entries)) ≤ words_needed t
-  unfolding words_of ends_of
-  words-few =
-      let lows = ends_out t h state (ends_of false) in
-      let highs = ends_out t h state (ends_of true) in
-      omega (
-        arith,
-        length-append (held_out t h state) (heads_out t h state ++ (lows ++ highs)),
-        length-tabulate (λ p. held_by (place_in state.rows p) (h p)) (sizes_of t).points,
-        length-append (heads_out t h state) (lows ++ highs),
-        chunks-length (λ i. head_words t h state (get_or (codes_of t h state) i 0)) 3 (length (codes_of t h state)) (λ k l. refl),
-        length-append lows highs,
-        ends-room false,
-        ends-room true,
-        codes-few t h state,
-      )
+  abbrev pub noted : ℕ → List ℕ
+  noted n = those filled n
 
--- ---- the pieces
-module _ (t : List ℤ) (plan index : List ℕ) (rows entries : List ℤ) (passes : Passes t) (indexed : Indexed t (held_in plan) index)
-    (heads : List ℕ) (count : ℕ) (count-is : count ≡ length (codes_of t (held_in plan) (state_in t rows entries)))
-    (heads-are : (i : ℕ) → i < count → get_or heads i 0 ≡ get_or (codes_of t (held_in plan) (state_in t rows entries)) i 0) where
-  abbrev h : ℕ → ℕ
-  h = held_in plan
+  module _ (c : ℕ) (x : Option Interval) (is : option_map one_of x ≡ entry_under (table_of g) (held_by g) (state_by g s) c) where
+    filled-is : {b : Bool} → b ≡ is_there x → filled c ≡ b
+    unfolding is_some
+    filled-is {b} e = rw (← is) (by x (sym e))
+      where
+        by : (x : Option Interval) → is_there x ≡ b → is_some (option_map one_of x) ≡ b
+        by None e = e
+        by (Some y) e = e
 
-  abbrev s : State
-  s = state_in t rows entries
+    -- no more entries than points
+    pub note_room : {d l : List ℕ} {n k : ℕ} → k ≡ code_count (table_of g) → c < k → true ≡ is_there x → Puts d 0 (noted c) l n → n < 256
+    unfolding codes_of
+    note_room all l e p =
+        omega (
+          arith,
+          p.next-is,
+          ap length (those-more filled c (filled-is e)),
+          length-append (noted c) (c ∷ []),
+          those_rise filled (suc c) (code_count (table_of g)) (omega arith),
+          codes-few (table_of g) (held_by g) (state_by g s),
+          points_few (table_of g) g.table.now.checked,
+        )
 
-  abbrev codes : List ℕ
-  codes = codes_of t (held_in plan) (state_in t rows entries)
+    pub note_some : {d l : List ℕ} {n : ℕ} → n < length l → true ≡ is_there x → Puts d 0 (noted c) l n → Puts d 0 (noted (c + 1)) (set l n c) (n + 1)
+    note_some {l = l} {n} room e p = rw (add-one c, those-more filled c (filled-is e)) (puts_append (omega arith) p (puts_one l n c room))
 
-  -- the head i, and the entry under it
-  pub record Listed (i : ℕ) : Type 0 where
-    pub is : get_or heads i 0 ≡ get_or (codes_of t (held_in plan) (state_in t rows entries)) i 0
-    pub below : get_or heads i 0 < code_count t
-    pub entry : Filled t (held_in plan) index indexed rows entries (get_or heads i 0)
+    pub note_none : {d l : List ℕ} {n : ℕ} → false ≡ is_there x → Puts d 0 (noted c) l n → Puts d 0 (noted (c + 1)) l n
+    note_none e p = rw (add-one c, those-same filled c (filled-is e)) p
 
-  listed : (i : ℕ) → i < count → Listed i
+  pub note_start : (d : List ℕ) → Puts d 0 (noted 0) d 0
+  unfolding those concat_below
+  note_start d = puts_none d 0
+
+  pub note_end : {d l : List ℕ} {n c k : ℕ} → k ≡ code_count (table_of g) → c ≤ k → k ≤ c → Puts d 0 (noted c) l n
+      → Puts d 0 (codes_of (table_of g) (held_by g) (state_by g s)) l n
   unfolding codes_of
-  listed i l =
-      let e = heads-are i l in
-      let one = those-in (λ c. is_some (entry_under t h s c)) (code_count t) i (subst (λ (k : ℕ). i < k) count-is l) in
-      let below : get_or heads i 0 < code_count t = subst (λ (c : ℕ). c < code_count t) (sym e) one.below in
-      record {
-        is = e;
-        below = below;
-        entry = filled t h index indexed rows entries (get_or heads i 0) below (subst (λ (c : ℕ). is_some (entry_under t h s c) ≡ true) (sym e) one.holds);
-      }
+  note_end {d} {l} {n} all within end p = subst (λ (k : ℕ). Puts d 0 (noted k) l n) (le_antisymm within end ∙ all) p
 
-  pub heads-known : Heads index heads count
-  heads-known =
-      record {
-        few = omega (arith, count-is, codes-few t h s, passes.points.high);
-        below = λ i l. let one = listed i l in omega (arith, one.below, heads-few t passes);
-        slot = λ i l. let one = listed i l in record { low = one.entry.some; high = slot-few t h index indexed passes (get_or heads i 0) one.below };
-      }
+-- ---- the words of the head i
+abbrev pub words_at : (t : List ℤ) (h : ℕ → ℕ) (s : State) → List ℕ → ℕ → List ℤ
+words_at t h s heads i = head_words t h s (get_or heads i 0)
 
-  held-is : held_out t h s ≡ held_from plan rows (sizes_of t).points
-  held-is =
-      tabulate-concat (λ p. held_by (place_in (rows_in t rows) p) (h p)) (sizes_of t).points
-      ∙ concat-same _ _ (sizes_of t).points (λ p l.
-      ap (λ (x : ℤ). x ∷ []) (rw (place_in-at (sizes_of t).variables ((sizes_of t).points + (sizes_of t).mutexes) rows p (omega arith)) (held-maybe _ _ _)))
+pub heads_put : (t : List ℤ) (h : ℕ → ℕ) (s : State) {heads : List ℕ} {d e : List ℤ} {at next : ℕ} → heads ≡ codes_of t h s
+    → Puts d at (concat_below (words_at t h s heads) (length heads)) e next → Puts d at (heads_out t h s) e next
+heads_put t h s {d = d} {e} {at} {next} is p = subst (λ (l : List ℕ). Puts d at (concat_below (words_at t h s l) (length l)) e next) is p
 
-  heads-is : heads_out t h s ≡ heads_from (sizes_of t).variables (sets_of t) heads count
-  heads-is =
-      ap (λ (k : ℕ). concat_below (λ i. head_words t h s (get_or codes i 0)) k) (sym count-is)
-      ∙ concat-same _ _ count (λ i l. ap (λ (c : ℕ). head_out (sizes_of t).variables (sets_of t) c) (sym (heads-are i l)))
+-- ---- the ends of the row k
+abbrev pub ends_at : Given → Kept → Side → ℕ → List ℤ
+ends_at g s side k = ends_of side (row_out (table_of g) (held_by g) (state_by g s) k)
 
-  spans-is : (high : Bool) → map (λ c. word_of (ends_of high (span_of t h s c)) 0) codes ≡ spans_from high (sizes_of t).points index entries heads count
-  spans-is high =
-      map-concat (λ c. word_of (ends_of high (span_of t h s c)) 0) codes 0
-      ∙ ap (λ (k : ℕ). concat_below (λ i. word_of (ends_of high (span_of t h s (get_or codes i 0))) 0 ∷ []) k) (sym count-is)
-      ∙ concat-same _ _ count (λ i l.
-      let one = listed i l in
-      ap (λ (c : ℕ). word_of (ends_of high (span_of t h s c)) 0 ∷ []) (sym one.is)
-      ∙ ap (λ (r : Row). word_of (ends_of high r) 0 ∷ []) one.entry.span)
+-- ---- the heads collected
+module _ (g : Given) (s : Kept) {d l : List ℕ} {n : ℕ} (p : Puts d 0 (codes_of (table_of g) (held_by g) (state_by g s)) l n) where
+  pub collected : take n l ≡ codes_of (table_of g) (held_by g) (state_by g s)
+  collected =
+      let codes = codes_of (table_of g) (held_by g) (state_by g s) in
+      rw (p.is, p.next-is) (take-paste d 0 codes (length codes) (omega arith) (omega arith) ∙ take-length codes)
 
-  ends_is : (high : Bool) → ends_out t h s (ends_of high) ≡ ends_from high t index rows entries heads count
-  ends_is high =
-      ap (λ (l : List ℤ). concat_below (row_ends high (sizes_of t).variables (rows_in t rows)) ((sizes_of t).points + (sizes_of t).mutexes) ++ l) (spans-is high)
+  pub few_collected : length (take n l) ≤ (sizes_of (table_of g)).points
+  few_collected = rw collected (codes-few (table_of g) (held_by g) (state_by g s))
 
-  pub words-is : words_of t (held_in plan) (state_in t rows entries) ≡ words_from t plan index rows entries heads count
-  unfolding words_of ends_of
-  words-is =
-      let held = held_from plan rows (sizes_of t).points in
-      let three = heads_from (sizes_of t).variables (sets_of t) heads count in
-      let lows = ends_out t h s (ends_of false) in
-      let highs = ends_out t h s (ends_of true) in
-      ap (λ (k : ℕ). five (sizes_from t k) (held_out t h s) (heads_out t h s) lows highs) (sym count-is)
-      ∙ ap (λ (x : List ℤ). five (sizes_from t count) x (heads_out t h s) lows highs) held-is
-      ∙ ap (λ (x : List ℤ). five (sizes_from t count) held x lows highs) heads-is
-      ∙ ap (λ (x : List ℤ). five (sizes_from t count) held three x highs) (ends_is false)
-      ∙ ap (λ (x : List ℤ). five (sizes_from t count) held three (ends_from false t index rows entries heads count) x) (ends_is true)
+-- ---- the heads of the entries are heads, and the ends of these are put by index
+pub heads_below : (g : Given) (s : Kept) {heads : List ℕ} → heads ≡ codes_of (table_of g) (held_by g) (state_by g s) → (i : ℕ) → i < length heads
+    → get_or heads i 0 < code_count (table_of g)
+unfolding codes_of
+heads_below g s {heads} is i l =
+    let one = those-in (filled g s) (code_count (table_of g)) i (subst (λ (m : List ℕ). i < length m) is l) in
+    subst (λ (m : List ℕ). get_or m i 0 < code_count (table_of g)) (sym is) one.below
+
+abbrev pub span_at : Given → Kept → Side → ℕ → ℤ
+span_at g s side c = word_of (ends_of side (span_of (table_of g) (held_by g) (state_by g s) c)) 0
+
+pub map_tabulate : {A B : Type 0} (f : A → B) (l : List A) (d : A) → map f l ≡ tabulate (λ i. f (get_or l i d)) (length l)
+unfolding tabulate
+map_tabulate f [] d = refl
+map_tabulate f (x ∷ l) d = rw (map_tabulate f l d) (sym (tabulate-front (λ i. f (get_or (x ∷ l) i d)) (length l)))
+
+-- ---- the row at a place, by the first intervals of the row that the code reads there
+pub row_front : (g : Given) (s : Kept) (k : ℕ) {r : Row} → k < (sizes_of (table_of g)).points + (sizes_of (table_of g)).mutexes → Slots r
+    → ((n c : ℕ) → n ≤ 16 → k < c → trimmed_of n r ≡ row_in n (place_in (rows_by n c s.rows) k))
+    → row_out (table_of g) (held_by g) (state_by g s) k
+    ≡ row_of (take (sizes_of (table_of g)).variables r.lows) (take (sizes_of (table_of g)).variables r.highs)
+row_front g s k {r} below slots is =
+    let few = variables_few (table_of g) g.table.now.checked in
+    sym (trimmed-front (sizes_of (table_of g)).variables few r slots ∙ is _ _ few below)

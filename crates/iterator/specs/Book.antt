@@ -1,33 +1,57 @@
--- The plan, the index of heads and how many places are listed, as the code makes them, a point at a time. No definition of the proposal needs this.
+-- The plan as the code makes it, a point at a time. No definition of the proposal needs this.
 -- Assumes nothing.
-use Rattle.std.specs.Prelude.{ℕ, zero, suc, ◌+◌, Bool, true, false, List, ℤ, get_or, set}
+use Rattle.std.specs.Prelude.{ℕ, ◌+◌, ◌<◌, ◌≤◌, ◌≡◌, true, not, List, ℤ, get_or, set, take, replicate, Option, None, Some}
+use Rattle.words.specs.First.{first_bad}
 use Rattle.table.specs.Layout.{points_of, task_of}
 use Rattle.table.specs.Decode.{point_of}
-use Rattle.proposer.specs.Passes.{written_to}
-use Rattle.iterator.specs.Plan.{code_at, is_assign}
+use Rattle.proposer.specs.Fold.{those}
+use Rattle.proposer.specs.Passes.{files_at, slot_of, written_to}
+use Rattle.iterator.specs.declared.plan.Plan.{Plan}
+use Rattle.iterator.specs.Plan.{code_count, code_at, is_assign, is_slot}
 
-pub record Book : Type 0 where
-  pub plan : List ℕ
-  pub index : List ℕ
-  pub count : ℕ
+-- nothing is known, and no head has an entry
+abbrev pub blank_plan : Plan
+blank_plan =
+    record {
+      held = replicate 256 0;
+      tasks = replicate 256 0;
+      places = replicate 256 0;
+      variables = replicate 256 0;
+      listed = replicate 256 0;
+      count = 0;
+      heads = replicate 32768 None;
+    }
 
-abbrev pub book_of : List ℕ → List ℕ → ℕ → Book
-book_of plan index count = record { plan = plan; index = index; count = count }
+-- the assignment at p, filed under the head c: where no point is filed under it yet, p is the place of its entry
+unfoldable pub file_by : Option ℕ → Plan → ℕ → ℕ → Plan
+file_by None b p c =
+    record {
+      held = b.held;
+      tasks = b.tasks;
+      places = set b.places p p;
+      variables = b.variables;
+      listed = set b.listed b.count p;
+      count = b.count + 1;
+      heads = set b.heads c (Some p);
+    }
+file_by (Some q) b p c =
+    record {
+      held = b.held;
+      tasks = b.tasks;
+      places = set b.places p q;
+      variables = b.variables;
+      listed = b.listed;
+      count = b.count;
+      heads = b.heads;
+    }
 
--- the held set s, the task u and the variable v of the point p
-abbrev pub noted_in : List ℕ → ℕ → ℕ → ℕ → ℕ → List ℕ
-noted_in plan p s u v = set (set (set plan p s) (256 + p) u) (768 + p) v
-
--- the assignment at p, filed under the head c: the index has 0 there as long as no point is filed under it, and then p is the place of its entry
-unfoldable pub file_by : ℕ → Book → ℕ → ℕ → Book
-file_by zero b p c = book_of (set (set b.plan (512 + p) p) (1024 + b.count) p) (set b.index c (p + 1)) (b.count + 1)
-file_by (suc q) b p c = book_of (set b.plan (512 + p) q) b.index b.count
-
-unfoldable pub file_if : Bool → Book → ℕ → ℕ → Book
-file_if true b p c = file_by (get_or b.index c 0) b p c
-file_if false b p c = b
-
-abbrev pub entered_in : List ℤ → (ℕ → ℕ) → Book → ℕ → Book
-entered_in t h b p =
-    file_if (is_assign (point_of (points_of t) p))
-    (book_of (noted_in b.plan p (h p) (task_of t p) (written_to (point_of (points_of t) p))) b.index b.count) p (code_at t h p)
+-- what it has of the points before p
+pub record Upto (t : List ℤ) (h : ℕ → ℕ) (p : ℕ) (b : Plan) : Type 0 where
+  pub held : (q : ℕ) → q < p → get_or b.held q 0 ≡ h q
+  pub free : (q : ℕ) → p ≤ q → get_or b.held q 0 ≡ 0
+  pub task : (q : ℕ) → q < p → get_or b.tasks q 0 ≡ task_of t q
+  pub place : (q : ℕ) → q < p → is_assign (point_of (points_of t) q) ≡ true → slot_of t h (code_at t h q) ≡ Some (get_or b.places q 0)
+  pub variable : (q : ℕ) → q < p → is_assign (point_of (points_of t) q) ≡ true → get_or b.variables q 0 ≡ written_to (point_of (points_of t) q)
+  pub few : b.count ≤ p
+  pub listed : take b.count b.listed ≡ those (is_slot t h) p
+  pub head : (c : ℕ) → c < code_count t → get_or b.heads c None ≡ first_bad (λ q. not (files_at t h c q)) p

@@ -1,6 +1,7 @@
 // The fixpoint iterator: it computes the proposal that crate proposer defines.
 #![tactic(auto)]
 
+mod given;
 mod leave;
 mod nearest;
 mod pass;

@@ -1,190 +1,172 @@
-// Places with rows in one array of words (specs/Arrays): whether anything moved, a flag for each of c places, all low ends, n words a place, all high
-// ends. Rows and entries are both kept so, and change by `take` and `take_at` alone.
-ghost use Rattle.std.specs.Prelude.{◌≡◌, ◌&&◌, [], ◌∷◌, ◌+◌, ◌<◌, ◌≤◌, length, set};
+// The state of the passes (specs/Arrays): at each place none yet, or what was taken in there. During the passes what stands at a place changes by
+// `take` and `take_at` alone.
+ghost use Rattle.std.specs.Prelude.{◌≡◌, ◌&&◌, ℕ, ◌<◌, ◌≤◌, Some, IfSome, set};
 ghost use Rattle.std.specs.Int.Signed.{le_z};
-ghost use Rattle.words.specs.Words.{word_of, part_of};
-ghost use Rattle.analysis.specs.Rows.{row_of, some};
-ghost use Rattle.proposer.specs.Widen.{place_in, low_to, high_to, covers_of, take_in};
-ghost use Rattle.proposer.specs.Passes.{take_both};
-ghost use Rattle.iterator.specs.Arrays.{lows_at, highs_at, is_there, is_moved, places_in, Room};
-ghost use Rattle.iterator.specs.Written.{low_by, high_by, Written};
+ghost use Rattle.std.specs.Option.{option_map};
+ghost use Rattle.words.specs.Words.{word_of};
+ghost use Rattle.analysis.specs.Rows.{row_of};
+ghost use Rattle.proposer.specs.Widen.{place_in, low_to, high_to, covers_of, trimmed_of, widened_of, take_in};
+ghost use Rattle.proposer.specs.Passes.{row_in, take_both};
+ghost use Rattle.iterator.specs.Arrays.{Clear, one_of, rows_by, entries_by};
 
 use crate::nearest::{high_to, low_to};
-use interval::integer::same;
-use words::{part, word};
+use analysis::{Ends, Row};
+use interval::Interval;
+use words::all_below;
 
-// Whether anything moved.
-pub(crate) fn is_moved(ws: &[i32]) -> bool
-    ensures { result ≡ is_moved ws.now }
-{
-    same(word(ws, 0), 1)
+// The rows of points, and behind them the rest rows. Of a row's sixteen intervals only those of the table's variables count.
+#[derive(Drop)]
+pub(crate) struct Rows {
+    pub(crate) at: [Option<Row>; 264],
+    pub(crate) moved: bool,
 }
 
-// Whether there is a row at the place k.
-pub(crate) fn is_there(ws: &[i32], k: usize) -> bool
-    requires { k ≤ 264 }
-    ensures { result ≡ is_there ws.now k }
-{
-    same(word(ws, 1 + k), 1)
+// The entries, each at the smallest point whose write is filed under it.
+#[derive(Drop)]
+pub(crate) struct Entries {
+    pub(crate) at: [Option<Interval>; 256],
+    pub(crate) moved: bool,
 }
 
-// Where the low ends of the place k begin.
-fn lows_from(n: usize, c: usize, k: usize) -> usize
-    requires { (n ≤ 16) × (c ≤ 264) × (k ≤ 264) }
-    ensures { result ≡ lows_at n c k }
-{
-    1 + c + k * n
+#[derive(Drop)]
+pub(crate) struct State {
+    pub(crate) rows: Rows,
+    pub(crate) entries: Entries,
 }
 
-// Where the high ends begin.
-fn highs_from(n: usize, c: usize, k: usize) -> usize
-    requires { (n ≤ 16) × (c ≤ 264) × (k ≤ 264) }
-    ensures { result ≡ highs_at n c k }
+// Whether x holds y.
+fn holds(x: Interval, y: Interval) -> bool
+    ensures { result ≡ le_z x.low y.low && le_z y.high x.high }
 {
-    1 + c + c * n + k * n
+    (x.low <= y.low) & (y.high <= x.high)
 }
 
-// The low ends of the place k.
-pub(crate) fn lows_at(ws: &[i32], n: usize, c: usize, k: usize) -> &[i32]
-    requires { (n ≤ 16) × (c ≤ 264) × (k ≤ 264) }
-    ensures { result.now ≡ part_of ws.now (lows_at n c k) n }
+// The interval x, with the ends that must move to hold y where they move to.
+fn widened(ts: &[i32], x: Interval, y: Interval) -> Interval
+    ensures { result ≡ record { low = low_to ts.now x.low y.low; high = high_to ts.now x.high y.high } }
 {
-    part(ws, lows_from(n, c, k), n)
-}
-
-// The high ends.
-pub(crate) fn highs_at(ws: &[i32], n: usize, c: usize, k: usize) -> &[i32]
-    requires { (n ≤ 16) × (c ≤ 264) × (k ≤ 264) }
-    ensures { result.now ≡ part_of ws.now (highs_at n c k) n }
-{
-    part(ws, highs_from(n, c, k), n)
-}
-
-// Whether low to high holds a to b.
-fn holds(low: i32, high: i32, a: i32, b: i32) -> bool
-    ensures { result ≡ le_z low a && le_z b high }
-{
-    (low <= a) & (b <= high)
-}
-
-// The first n intervals of a row in place of those whose low ends begin at a, and whose high ends at b.
-fn put<'a, 'b>(ws: &'b mut [i32], n: usize, a: usize, b: usize, lows: &'a [i32], highs: &'a [i32])
-    requires { (a + n ≤ b) × (b + n ≤ length ws.old) }
-    ensures { Written n a b (word_of lows.now) (word_of highs.now) ws.old ws.new }
-{
-    let mut v = 0;
-    while v < n {
-        ws[a + v] = word(lows, v);
-        ws[b + v] = word(highs, v);
-        v += 1;
+    Interval {
+        low: low_to(ts, x.low, y.low),
+        high: high_to(ts, x.high, y.high),
     }
 }
 
-// Whether no end of the row there must move to hold the row.
-fn covers<'a>(
-    ws: &'a [i32],
-    n: usize,
-    a: usize,
-    b: usize,
-    lows: &'a [i32],
-    highs: &'a [i32],
-) -> bool
-    requires { (a + n ≤ b) × (b + n ≤ length ws.now) }
-    ensures { result ≡ covers_of n (row_of (part_of ws.now a n) (part_of ws.now b n)) (row_of lows.now highs.now) }
+// The ends of the variable v.
+fn ends(row: &Row, v: usize) -> Interval
+    requires { v < 16 }
+    ensures { result ≡ record { low = word_of row.now.lows v; high = word_of row.now.highs v } }
 {
-    let mut v = 0;
-    while v < n {
-        if !holds(ws[a + v], ws[b + v], word(lows, v), word(highs, v)) {
-            return false;
+    Interval {
+        low: row.lows[v],
+        high: row.highs[v],
+    }
+}
+
+// The interval x as that of the variable v.
+#[tactic(auto, using(crate::proofs::CutLaws::put_trimmed))]
+pub(crate) fn put(row: &mut Row, v: usize, x: Interval)
+    requires { v < 16 }
+    ensures { (n : ℕ) → v < n → trimmed_of n row.new ≡ row_of (set (trimmed_of n row.old).lows v x.low) (set (trimmed_of n row.old).highs v x.high) }
+{
+    row.lows[v] = x.low;
+    row.highs[v] = x.high;
+}
+
+// Whether no end of the row's first n intervals must move to hold those of the other.
+#[tactic(auto, unfolding(proposer::specs::Widen::covers_of))]
+fn covers(n: usize, row: &Row, more: &Row) -> bool
+    requires { n ≤ 16 }
+    ensures { result ≡ covers_of n row.now more.now }
+{
+    all_below(n, |v| holds(ends(row, v), ends(more, v)))
+}
+
+// The row, with those ends of it that must move where they move to.
+fn widened_row(n: usize, ts: &[i32], row: &Row, more: &Row) -> Row
+    requires { n ≤ 16 }
+    ensures { trimmed_of n result ≡ widened_of n ts.now row.now more.now }
+{
+    let mut next = *row;
+    for v in 0..n {
+        put(&mut next, v, widened(ts, ends(row, v), ends(more, v)));
+    }
+    next
+}
+
+impl Rows {
+    // The row at the place k, where there is one, with zeros past its first n intervals.
+    pub(crate) fn row(&self, n: usize, k: usize) -> Option<Row>
+        requires { (n ≤ 16) × (k < 264) }
+        ensures value { (c : ℕ) → k < c → option_map (trimmed_of n) result ≡ place_in (rows_by n c self.now) k }
+        ensures clear { IfSome result (Clear n) }
+    {
+        let row = self.at[k]?;
+        let ends = Ends {
+            lows: &row.lows[..n],
+            highs: &row.highs[..n],
+        };
+        Some(ends.own())
+    }
+
+    // The row at the place k; zeros where there is none.
+    pub(crate) fn row_or_zeros(&self, k: usize) -> Row
+        requires { k < 264 }
+        ensures { (n c : ℕ) → n ≤ 16 → k < c → trimmed_of n result ≡ row_in n (place_in (rows_by n c self.now) k) }
+    {
+        self.at[k].unwrap_or(Row::default())
+    }
+
+    // A row is taken in at the place k: as it is where there is none yet, else the ends that must move, move.
+    pub(crate) fn take(&mut self, n: usize, ts: &[i32], k: usize, row: &Row)
+        requires { (n ≤ 16) × (k < 264) }
+        ensures { (c : ℕ) → k < c → rows_by n c self.new ≡ take_in n ts.now (rows_by n c self.old) k row.now }
+    {
+        match &self.at[k] {
+            None => self.at[k] = Some(*row),
+            Some(old) => {
+                if covers(n, old, row) {
+                    return;
+                }
+                self.at[k] = Some(widened_row(n, ts, old, row));
+            },
         }
-        v += 1;
+        self.moved = true;
     }
-    true
-}
 
-// The low end at i and the high end at j move, where they must, to hold low to high.
-fn move_ends<'a, 'b>(ts: &'a [i32], ws: &'b mut [i32], i: usize, j: usize, low: i32, high: i32)
-    requires { (i < j) × (j < length ws.old) }
-    ensures { ws.new ≡ set (set ws.old i (low_to ts.now (word_of ws.old i) low)) j (high_to ts.now (word_of ws.old j) high) }
-{
-    let a = low_to(ts, ws[i], low);
-    let b = high_to(ts, ws[j], high);
-    ws[i] = a;
-    ws[j] = b;
-}
-
-// The ends of the row there that must move, move.
-fn widen<'a, 'b>(
-    ts: &'a [i32],
-    ws: &'b mut [i32],
-    n: usize,
-    a: usize,
-    b: usize,
-    lows: &'a [i32],
-    highs: &'a [i32],
-)
-    requires { (a + n ≤ b) × (b + n ≤ length ws.old) }
-    ensures { Written n a b (low_by ts.now (part_of ws.old a n) lows.now) (high_by ts.now (part_of ws.old b n) highs.now) ws.old ws.new }
-{
-    let mut v = 0;
-    while v < n {
-        move_ends(ts, ws, a + v, b + v, word(lows, v), word(highs, v));
-        v += 1;
+    // The row at the place k, if there is one, takes in the interval x of the variable v: no other end of it can move.
+    pub(crate) fn take_at(&mut self, ts: &[i32], k: usize, v: usize, x: Interval)
+        requires { (k < 264) × (v < 16) }
+        ensures { (n c : ℕ) → v < n → k < c → rows_by n c self.new ≡ take_both (Some (one_of x)) (place_in (rows_by n c self.old) k) n ts.now (rows_by n c self.old) k v }
+    {
+        let Some(row) = &self.at[k] else {
+            return;
+        };
+        let old = ends(row, v);
+        if holds(old, x) {
+            return;
+        }
+        let mut next = *row;
+        put(&mut next, v, widened(ts, old, x));
+        self.at[k] = Some(next);
+        self.moved = true;
     }
 }
 
-// A row is taken in at the place k: as it is where there is none yet, else the ends that must move, move.
-pub(crate) fn take<'a, 'b>(
-    ts: &'a [i32],
-    ws: &'b mut [i32],
-    n: usize,
-    c: usize,
-    k: usize,
-    lows: &'a [i32],
-    highs: &'a [i32],
-)
-    requires room { Room n c ws.old }
-    requires k_lt_c { k < c }
-    ensures { places_in n c ws.new ≡ take_in n ts.now (places_in n c ws.old) k (row_of lows.now highs.now) }
-{
-    let a = lows_from(n, c, k);
-    let b = highs_from(n, c, k);
-    if !is_there(&*ws, k) {
-        put(ws, n, a, b, lows, highs);
-        ws[1 + k] = 1;
-        ws[0] = 1;
-        return;
+impl Entries {
+    // An interval is taken in at the place q in the same way.
+    pub(crate) fn take(&mut self, ts: &[i32], q: usize, x: Interval)
+        requires { q < 256 }
+        ensures { (c : ℕ) → q < c → entries_by c self.new ≡ take_in 1 ts.now (entries_by c self.old) q (one_of x) }
+    {
+        match self.at[q] {
+            None => self.at[q] = Some(x),
+            Some(old) => {
+                if holds(old, x) {
+                    return;
+                }
+                self.at[q] = Some(widened(ts, old, x));
+            },
+        }
+        self.moved = true;
     }
-    if covers(&*ws, n, a, b, lows, highs) {
-        return;
-    }
-    widen(ts, ws, n, a, b, lows, highs);
-    ws[0] = 1;
-}
-
-// The row k, if there is one, takes in low..high of the variable v: no other end of it can move.
-pub(crate) fn take_at<'a, 'b>(
-    ts: &'a [i32],
-    ws: &'b mut [i32],
-    n: usize,
-    c: usize,
-    k: usize,
-    v: usize,
-    low: i32,
-    high: i32,
-)
-    requires room { Room n c ws.old }
-    requires k_lt_c { (k < c) × (v < n) }
-    ensures { places_in n c ws.new ≡ take_both (some (row_of (low ∷ []) (high ∷ []))) (place_in (places_in n c ws.old) k) n ts.now (places_in n c ws.old) k v }
-{
-    if !is_there(&*ws, k) {
-        return;
-    }
-    let i = lows_from(n, c, k) + v;
-    let j = highs_from(n, c, k) + v;
-    if holds(ws[i], ws[j], low, high) {
-        return;
-    }
-    move_ends(ts, ws, i, j, low, high);
-    ws[0] = 1;
 }

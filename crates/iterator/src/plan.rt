@@ -1,130 +1,108 @@
 // What of a table and its held sets is known before the first pass (specs/Plan).
-ghost use Rattle.std.specs.Prelude.{◌≡◌, ℕ, ◌<◌, ◌≤◌, get_or, replicate};
+ghost use Rattle.std.specs.Prelude.{◌≡◌, ℕ, ◌+◌, ◌<◌, ◌≤◌, length, get_or, None};
 ghost use Rattle.table.specs.Layout.{sizes_of};
-ghost use Rattle.table.specs.Passes.{Passes};
 ghost use Rattle.proposer.specs.Walk.{sets_of, mark_count, held_in as held_brought};
-ghost use Rattle.proposer.specs.Passes.{code_of, written_to};
-ghost use Rattle.iterator.specs.Arrays.{marks_in};
-ghost use Rattle.iterator.specs.Plan.{held_in, code_count, is_assign, Indexed, Planned};
-ghost use Rattle.iterator.specs.Book.{book_of, file_by, entered_in};
+ghost use Rattle.proposer.specs.Passes.{code_of as head_of};
+ghost use Rattle.iterator.specs.Plan.{held_in, code_count, Planned};
+ghost use Rattle.iterator.specs.Book.{blank_plan, file_by, Upto};
 
 use crate::walk::{held_of, sets};
-use table::Point;
 use table::decode::point_at;
-use table::layout::{point_words, task_of};
-use words::number_at;
+use table::layout::task_of;
+use table::{Point, Table};
+use words::filled;
 
-// Whether an assignment stands there.
-fn is_assign(x: Point) -> bool
-    ensures { result ≡ is_assign x }
-{
-    match x {
-        Point::Assign(_, _, _) => true,
-        Point::End => false,
-        Point::Test(_, _, _) => false,
-        Point::Lock(_, _) => false,
-        Point::Unlock(_, _) => false,
-    }
+// Of each point: its held set, its task, the place of its entry and the variable that it writes. Then the places that entries can have, the first count of
+// the list; and the place of the entry under each head.
+#[derive(Drop)]
+pub(crate) struct Plan {
+    pub(crate) held: [usize; 256],
+    pub(crate) tasks: [usize; 256],
+    pub(crate) places: [usize; 256],
+    pub(crate) variables: [usize; 256],
+    pub(crate) listed: [usize; 256],
+    pub(crate) count: usize,
+    pub(crate) heads: [Option<u8>; 32768],
 }
 
-// The variable that it writes.
-fn written(x: Point) -> usize
-    ensures { result ≡ written_to x }
+// How many heads there are.
+#[tactic(auto, using(crate::proofs::TableLaws::sizes, crate::proofs::SetLaws::sets))]
+pub(crate) fn code_count(t: &Table<'_>) -> usize
+    ensures value { result ≡ code_count t.now.words.now }
+    ensures upper_bound { result ≤ 32768 }
 {
-    match x {
-        Point::Assign(v, _, _) => v,
-        Point::End => 0,
-        Point::Test(_, _, _) => 0,
-        Point::Lock(_, _) => 0,
-        Point::Unlock(_, _) => 0,
-    }
+    t.sizes.tasks * sets(t) * t.sizes.variables
 }
 
 // The number of the head of the variable v, written by the task u with the held set s.
-fn head_of(t: &[i32], u: usize, s: usize, v: usize) -> usize
-    requires passes { Passes t.now }
-    requires u_bound { (u < (sizes_of t.now).tasks) × (s < sets_of t.now) × (v < (sizes_of t.now).variables) }
-    ensures value { result ≡ code_of t.now u s v }
-    ensures upper_bound { result < code_count t.now }
+#[tactic(auto, using(crate::proofs::TableLaws::sizes, crate::proofs::SetLaws::sets))]
+fn code_of(t: &Table<'_>, u: usize, s: usize, v: usize) -> usize
+    requires { (u < (sizes_of t.now.words.now).tasks) × (s < sets_of t.now.words.now) × (v < (sizes_of t.now.words.now).variables) }
+    ensures value { result ≡ head_of t.now.words.now u s v }
+    ensures upper_bound { result < code_count t.now.words.now }
 {
-    (u * sets(t) + s) * number_at(t, 1) + v
+    (u * sets(t) + s) * t.sizes.variables + v
 }
 
-// A word of the index as a number.
-fn wide(x: u16) -> usize
-    ensures { result ≡ x }
+// Nothing is known, and no head has an entry.
+pub(crate) fn blank_plan() -> Plan
+    ensures { result ≡ blank_plan }
 {
-    x as usize
-}
-
-// The assignment at p is filed under the head c. The first point under a head is the place of its entry, and comes to the end of the list, whose length
-// is the result.
-fn file<'b>(
-    plan: &'b mut [usize; 1281],
-    index: &'b mut [u16; 32768],
-    p: usize,
-    c: usize,
-    count: usize,
-) -> usize
-    requires { (p < 256) × (c < 32768) × (count ≤ p) }
-    ensures { book_of plan.new index.new result ≡ file_by (get_or index.old c 0) (book_of plan.old index.old count) p c }
-{
-    let first = wide(index[c]);
-    if first != 0 {
-        plan[512 + p] = first - 1;
-        return count;
+    Plan {
+        held: filled(0),
+        tasks: filled(0),
+        places: filled(0),
+        variables: filled(0),
+        listed: filled(0),
+        count: 0,
+        heads: filled(None),
     }
-    index[c] = (p + 1) as u16;
-    plan[512 + p] = p;
-    plan[1024 + count] = p;
-    count + 1
 }
 
-// What is known of the point p alone is noted, and an assignment is filed.
-fn enter<'a, 'b>(
-    t: &'a [i32],
-    marks: &'a [u8; 65536],
-    plan: &'b mut [usize; 1281],
-    index: &'b mut [u16; 32768],
-    p: usize,
-    count: usize,
-) -> usize
-    requires passes { Passes t.now }
-    requires p_bound { (p < (sizes_of t.now).points) × (count ≤ p) }
-    ensures { book_of plan.new index.new result ≡ entered_in t.now (held_brought t.now (marks_in (mark_count t.now) marks.now)) (book_of plan.old index.old count) p }
-{
-    let x = point_at(point_words(t), p);
-    let s = held_of(t, marks, p);
-    let u = task_of(t, p);
-    let v = written(x);
-    plan[p] = s;
-    plan[256 + p] = u;
-    plan[768 + p] = v;
-    if !is_assign(x) {
-        return count;
+impl Plan {
+    // The assignment at p is filed under the head c. The first point under a head is the place of its entry, and comes to the end of the list.
+    #[tactic(auto, unfolding(crate::specs::Book::file_by))]
+    fn file(&mut self, p: usize, c: usize)
+        requires { (p < 256) × (c < 32768) × (self.old.count ≤ p) }
+        ensures { self.new ≡ file_by (get_or self.old.heads c None) self.old p c }
+    {
+        if let Some(first) = self.heads[c] {
+            self.places[p] = usize::from(first);
+            return;
+        }
+        self.places[p] = p;
+        self.listed[self.count] = p;
+        self.count += 1;
+        self.heads[c] = Some(p as u8);
     }
-    file(plan, index, p, head_of(t, u, s, v), count)
+
+    // What is known of the point p alone is noted, and an assignment is filed.
+    #[tactic(auto, using(crate::proofs::TableLaws::sizes, crate::proofs::SetLaws::heads_few))]
+    fn enter(&mut self, t: &Table<'_>, marks: &[bool], p: usize)
+        requires marks_len { length marks.now ≡ mark_count t.now.words.now }
+        requires p_bound { p < (sizes_of t.now.words.now).points }
+        requires upto { Upto t.now.words.now (held_brought t.now.words.now marks.now) p self.old }
+        ensures { Upto t.now.words.now (held_brought t.now.words.now marks.now) (p + 1) self.new }
+    {
+        let held = held_of(t, marks, p);
+        let task = task_of(t.words, p);
+        self.held[p] = held;
+        self.tasks[p] = task;
+        if let Point::Assign(v, _, _) = point_at(t.points, p) {
+            self.variables[p] = v;
+            self.file(p, code_of(t, task, held, v));
+        }
+    }
 }
 
-// The plan, and the index of heads by which entries are found.
-pub(crate) fn plan_for<'a, 'b>(
-    t: &'a [i32],
-    marks: &'a [u8; 65536],
-    plan: &'b mut [usize; 1281],
-    index: &'b mut [u16; 32768],
-)
-    requires passes { Passes t.now }
-    requires plan_value { (plan.old ≡ replicate 1281 0) × (index.old ≡ replicate 32768 0) }
-    ensures by_index { (p : ℕ) → held_in plan.new p ≡ held_brought t.now (marks_in (mark_count t.now) marks.now) p }
-    ensures planned { Planned t.now plan.new }
-    ensures indexed { Indexed t.now (held_in plan.new) index.new }
+// The plan by the marks of all walks, made where it lies, since a plan that is handed back is copied.
+pub(crate) fn plan_for(plan: &mut Plan, t: &Table<'_>, marks: &[bool])
+    requires blank { plan.old ≡ blank_plan }
+    requires marks_len { length marks.now ≡ mark_count t.now.words.now }
+    ensures by_index { (p : ℕ) → held_in plan.new p ≡ held_brought t.now.words.now marks.now p }
+    ensures planned { Planned t.now.words.now plan.new }
 {
-    let points = number_at(t, 3);
-    let mut count = 0;
-    let mut p = 0;
-    while p < points {
-        count = enter(t, marks, plan, index, p, count);
-        p += 1;
+    for p in 0..t.sizes.points {
+        plan.enter(t, marks, p);
     }
-    plan[1280] = count;
 }

@@ -1,54 +1,50 @@
 // The state that the passes start from.
-ghost use Rattle.std.specs.Prelude.{◌≡◌, ◌+◌, ◌<◌, pos, replicate, set};
-ghost use Rattle.table.specs.Layout.{sizes_of};
-ghost use Rattle.table.specs.Passes.{Passes};
-ghost use Rattle.analysis.specs.Rows.{none};
-ghost use Rattle.proposer.specs.Widen.{place_in};
-ghost use Rattle.proposer.specs.Passes.{begins as begins_of, start_if, start_of};
-ghost use Rattle.iterator.specs.Arrays.{rows_in};
+ghost use Rattle.std.specs.Prelude.{◌≡◌};
+ghost use Rattle.proposer.specs.Passes.{begins as begins_of, start_of};
+ghost use Rattle.iterator.specs.Arrays.{blank_state, state_in};
 
-use crate::places::take;
-use table::layout::{first_of, starts, task_of};
-use words::number_at;
+use crate::places::{Entries, Rows, State};
+use analysis::Ends;
+use table::Table;
+use table::layout::{first_of, task_of};
+use words::filled;
 
 // Whether the place k is a rest row, or a point at which its task starts.
-fn begins(t: &[i32], k: usize) -> bool
-    requires { Passes t.now }
-    ensures { result ≡ begins_of t.now k }
+#[tactic(auto, using(crate::proofs::StartLaws::first_begins))]
+fn begins(t: &Table<'_>, k: usize) -> bool
+    ensures { result ≡ begins_of t.now.words.now k }
 {
-    if k < number_at(t, 3) {
-        first_of(t, task_of(t, k)) == k
-    } else {
-        true
+    t.sizes.points <= k || first_of(t.words, task_of(t.words, k)) == k
+}
+
+// Nothing is there yet.
+pub(crate) fn blank_state() -> State
+    ensures { result ≡ blank_state }
+{
+    State {
+        rows: Rows {
+            at: filled(None),
+            moved: false,
+        },
+        entries: Entries {
+            at: filled(None),
+            moved: false,
+        },
     }
 }
 
-// The place k, which has no row yet, begins at the starting values if it is one that does. No end moves, so the thresholds don't matter.
-fn begin_at<'a, 'b>(t: &'a [i32], rows: &'b mut [i32; 8713], k: usize)
-    requires passes { Passes t.now }
-    requires k_bound { k < (sizes_of t.now).points + (sizes_of t.now).mutexes }
-    requires k_value { place_in (rows_in t.now rows.old) k ≡ none }
-    ensures { (rows_in t.now rows.new).at ≡ set (rows_in t.now rows.old).at k (start_if (begins_of t.now k) t.now) }
+// First points and rest rows begin at the starting values; no entry is there yet. The state is made where it lies, since one that is handed back is copied.
+#[tactic(auto, using(crate::proofs::TableLaws::sizes))]
+pub(crate) fn begin(t: &Table<'_>, state: &mut State)
+    requires { state.old ≡ blank_state }
+    ensures { state_in t.now.words.now state.new ≡ start_of t.now.words.now }
 {
-    if begins(t, k) {
-        let values = starts(t);
-        let n = number_at(t, 1);
-        let c = number_at(t, 3) + number_at(t, 2);
-        take(values, rows, n, c, k, values, values);
+    let start = Ends {
+        lows: t.starts,
+        highs: t.starts,
     }
-}
-
-// First points and rest rows begin at the starting values. (The array is zeros as it comes; no entry is there yet.)
-pub(crate) fn begin<'a, 'b>(t: &'a [i32], rows: &'b mut [i32; 8713])
-    requires passes { Passes t.now }
-    requires rows_value { rows.old ≡ replicate 8713 (pos 0) }
-    ensures { rows_in t.now rows.new ≡ (start_of t.now).rows }
-{
-    let c = number_at(t, 3) + number_at(t, 2);
-    let mut k = 0;
-    while k < c {
-        begin_at(t, rows, k);
-        k += 1;
+    .own();
+    for k in 0..t.sizes.points + t.sizes.mutexes {
+        state.rows.at[k] = begins(t, k).then_some(start);
     }
-    rows[0] = 0;
 }

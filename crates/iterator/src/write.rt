@@ -1,321 +1,248 @@
 // The words of the proposal, from the state that the passes ended in. Each function puts its words at a place and gives the next place.
-ghost use Rattle.std.specs.Prelude.{◌≡◌, ◌++◌, ℕ, ◌+◌, ◌<◌, ◌≤◌, length, drop, get_or};
-ghost use Rattle.table.specs.Passes.{Passes, Between};
-ghost use Rattle.proposer.specs.Fold.{concat_below, those_if, those};
-ghost use Rattle.proposer.specs.Propose.{words_of, words_needed};
-ghost use Rattle.iterator.specs.Arrays.{is_there, row_at, places_in, state_in};
-ghost use Rattle.iterator.specs.Plan.{held_in, Indexed, Planned};
-ghost use Rattle.iterator.specs.Write.{Puts, is_filled, Heads, sizes_from, held_if, held_from, head_out, heads_from, ends_of, row_ends, span_end, spans_from, ends_from, words_from};
+ghost use Rattle.std.specs.Prelude.{◌≡◌, ◌++◌, ℕ, ℤ, ◌+◌, ◌*◌, ◌<◌, ◌≤◌, length, get_or, drop, map};
+ghost use Rattle.std.specs.Option.{option_map};
+ghost use Rattle.words.specs.Words.{word_of};
+ghost use Rattle.words.specs.Tabulate.{tabulate};
+ghost use Rattle.table.specs.Layout.{sizes_of};
+ghost use Rattle.proposer.specs.Fold.{concat_below};
+ghost use Rattle.proposer.specs.Widen.{place_in};
+ghost use Rattle.proposer.specs.Propose.{held_by as held_word, entry_under, codes_of, head_words, row_out, span_of, sizes_out, held_out, heads_out, ends_out, words_of, words_needed};
+ghost use Rattle.iterator.specs.Arrays.{one_of};
+ghost use Rattle.iterator.specs.Plan.{code_count};
+ghost use Rattle.iterator.specs.Given.{table_of, held_by, state_by};
+ghost use Rattle.iterator.specs.Write.{Puts, ends_of};
 
-use crate::places::{highs_at, is_there, lows_at};
+use crate::given::Given;
+use crate::places::State;
+use crate::plan::code_count;
 use crate::walk::sets;
-use words::{number_at, word};
+use interval::Interval;
+use words::filled;
 
-// Room for the heads of all entries; a function of its own, so that no proof goes through its words.
-fn no_heads() -> [usize; 256]
-    ensures { length result ≡ 256 }
-{
-    [0; 256]
-}
-
-// Notes the head c behind the others, where its entry is there.
-fn note<'a, 'b>(
-    index: &'a [u16; 32768],
-    entries: &'a [i32; 769],
-    c: usize,
-    heads: &'b mut [usize; 256],
-    count: usize,
-) -> usize
-    requires c_bound { (c < 32768) × (get_or index.now c 0 ≤ 256) }
-    requires c_bound_2 { count + length (those_if (is_filled index.now entries.now c) c) ≤ 256 }
-    ensures { Puts heads.old count (those_if (is_filled index.now entries.now c) c) heads.new result }
-{
-    let slot = index[c] as usize;
-    if slot == 0 {
-        return count;
-    }
-    if !is_there(entries, slot - 1) {
-        return count;
-    }
-    heads[count] = c;
-    count + 1
-}
-
-// The heads below n whose entry is there, rising, and how many they are.
-fn collect<'a, 'b>(
-    index: &'a [u16; 32768],
-    entries: &'a [i32; 769],
-    n: usize,
-    heads: &'b mut [usize; 256],
-) -> usize
-    requires n_bound { (n ≤ 32768) × ((c : ℕ) → c < n → get_or index.now c 0 ≤ 256) }
-    requires heads_len { (length heads.old ≡ 256) × (length (those (is_filled index.now entries.now) n) ≤ 256) }
-    ensures { Puts heads.old 0 (those (is_filled index.now entries.now) n) heads.new result }
-{
-    let mut count = 0;
-    let mut c = 0;
-    while c < n {
-        count = note(index, entries, c, heads, count);
-        c += 1;
-    }
-    count
-}
-
-// Four sizes: points, variables, mutexes, entries.
-fn put_sizes<'a, 'b>(t: &'a [i32], count: usize, out: &'b mut [i32]) -> usize
-    requires passes { Passes t.now × (count ≤ 256) }
-    requires in_bounds { 4 ≤ length out.old }
-    ensures { Puts out.old 0 (sizes_from t.now count) out.new result }
-{
-    out[0] = number_at(t, 3) as i32;
-    out[1] = number_at(t, 1) as i32;
-    out[2] = number_at(t, 2) as i32;
-    out[3] = count as i32;
-    4
-}
-
-// The held set of the point p; -1 where no pass reached it.
-fn held_word<'a>(plan: &'a [usize; 1281], rows: &'a [i32; 8713], p: usize) -> i32
-    requires { (p < 256) × (held_in plan.now p < 256) }
-    ensures { result ≡ held_if (is_there rows.now p) (held_in plan.now p) }
-{
-    if !is_there(rows, p) {
-        return -1;
-    }
-    plan[p] as i32
-}
-
-// A held word for each point.
-fn put_held<'a, 'b>(
-    plan: &'a [usize; 1281],
-    rows: &'a [i32; 8713],
-    points: usize,
-    out: &'b mut [i32],
-    at: usize,
-) -> usize
-    requires points_bound { (points ≤ 256) × ((p : ℕ) → p < points → held_in plan.now p < 256) }
-    requires points_in_bounds { at + length (held_from plan.now rows.now points) ≤ length out.old }
-    ensures { Puts out.old at (held_from plan.now rows.now points) out.new result }
-{
-    let mut next = at;
-    let mut p = 0;
-    while p < points {
-        out[next] = held_word(plan, rows, p);
-        next += 1;
-        p += 1;
-    }
-    next
-}
-
-// Task, held set and variable of the head c.
-fn put_head(c: usize, n: usize, sets: usize, out: &mut [i32], at: usize) -> usize
-    requires c_bound { (c < 32768) × (1 ≤ n) × (1 ≤ sets) }
-    requires at_in_bounds { at + 3 ≤ length out.old }
-    ensures { Puts out.old at (head_out n sets c) out.new result }
-{
-    let front = c / n;
-    out[at] = (front / sets) as i32;
-    out[at + 1] = (front % sets) as i32;
-    out[at + 2] = (c % n) as i32;
-    at + 3
-}
-
-// Three words for each entry.
-fn put_heads<'a, 'b>(
-    heads: &'a [usize; 256],
-    count: usize,
-    n: usize,
-    sets: usize,
-    out: &'b mut [i32],
-    at: usize,
-) -> usize
-    requires count_bound { (count ≤ 256) × ((i : ℕ) → i < count → get_or heads.now i 0 < 32768) × (1 ≤ n) × (1 ≤ sets) }
-    requires count_in_bounds { at + length (heads_from n sets heads.now count) ≤ length out.old }
-    ensures { Puts out.old at (heads_from n sets heads.now count) out.new result }
-{
-    let mut next = at;
-    let mut i = 0;
-    while i < count {
-        next = put_head(heads[i], n, sets, out, next);
-        i += 1;
-    }
-    next
-}
-
-// The high ends of the place k, or the low ones.
-fn ends_at(ws: &[i32], n: usize, c: usize, k: usize, high: bool) -> &[i32]
-    requires { (n ≤ 16) × (c ≤ 264) × (k ≤ 264) }
-    ensures { result.now ≡ ends_of high (row_at n c ws.now k) }
-{
-    if high {
-        return highs_at(ws, n, c, k);
-    }
-    lows_at(ws, n, c, k)
+// The ends of intervals that are written: the low ones, or the high ones.
+#[derive(Clone, Copy, Debug, PartialEq, Eq)]
+pub(crate) enum Side {
+    Low,
+    High,
 }
 
 // A copy of words.
-fn put<'a, 'b>(ws: &'a [i32], out: &'b mut [i32], at: usize) -> usize
+fn put(ws: &[i32], out: &mut [i32], at: usize) -> usize
     requires { at + length ws.now ≤ length out.old }
     ensures { Puts out.old at ws.now out.new result }
 {
-    let mut next = at;
-    let mut i = 0;
-    while i < ws.len() {
-        out[next] = ws[i];
-        next += 1;
-        i += 1;
-    }
+    let next = at + ws.len();
+    out[at..next].copy_from_slice(ws);
     next
 }
 
-// Ends of the row k; zeros where there is none.
-fn put_row<'a, 'b>(
-    rows: &'a [i32; 8713],
-    n: usize,
-    c: usize,
-    k: usize,
-    high: bool,
-    out: &'b mut [i32],
-    at: usize,
-) -> usize
-    requires n_bound { (n ≤ 16) × (c ≤ 264) × (k < c) }
-    requires k_in_bounds { at + length (row_ends high n (places_in n c rows.now) k) ≤ length out.old }
-    ensures { Puts out.old at (row_ends high n (places_in n c rows.now) k) out.new result }
+// n words, by a function of their index.
+fn put_each<F: Fn(usize) -> i32>(n: usize, word: F, out: &mut [i32], at: usize) -> usize
+    requires callable { (k : ℕ) → k < n → F.pre word k }
+    requires room { at + n ≤ length out.old }
+    ensures puts { (f : ℕ → ℤ) → ((k : ℕ) (r : ℤ) → k < n → F.post word k r → r ≡ f k) → Puts out.old at (tabulate f n) out.new result }
+    ensures next { result ≡ at + n }
 {
-    if !is_there(rows, k) {
-        let none = [0i32; 16];
-        return put(&none[..n], out, at);
+    for k in 0..n {
+        out[at + k] = word(k);
     }
-    put(ends_at(rows, n, c, k, high), out, at)
+    at + n
 }
 
-// Ends of all rows: of points, then of mutexes.
-fn put_rows<'a, 'b>(
-    rows: &'a [i32; 8713],
-    n: usize,
-    c: usize,
-    high: bool,
-    out: &'b mut [i32],
-    at: usize,
-) -> usize
-    requires n_bound { (n ≤ 16) × (c ≤ 264) }
-    requires c_in_bounds { at + length (concat_below (row_ends high n (places_in n c rows.now)) c) ≤ length out.old }
-    ensures { Puts out.old at (concat_below (row_ends high n (places_in n c rows.now)) c) out.new result }
-{
-    let mut next = at;
-    let mut k = 0;
-    while k < c {
-        next = put_row(rows, n, c, k, high, out, next);
-        k += 1;
+impl Given<'_> {
+    // The entry under the head c.
+    #[tactic(auto, using(crate::proofs::SetLaws::sets, crate::proofs::WriteLaws::entry_none, crate::proofs::WriteLaws::entry_some))]
+    fn entry_under(&self, state: &State, c: usize) -> Option<Interval>
+        requires { c < code_count (table_of self.now) }
+        ensures { option_map one_of result ≡ entry_under (table_of self.now) (held_by self.now) (state_by self.now state.now) c }
+    {
+        let q = self.plan.heads[c]?;
+        state.entries.at[usize::from(q)]
     }
-    next
-}
 
-// The high end of the entry under the head c, or the low one.
-fn span_end<'a>(
-    index: &'a [u16; 32768],
-    entries: &'a [i32; 769],
-    points: usize,
-    c: usize,
-    high: bool,
-) -> i32
-    requires { (points ≤ 256) × (c < 32768) × Between 1 256 (get_or index.now c 0) }
-    ensures { result ≡ span_end high points index.now entries.now c }
-{
-    word(ends_at(entries, 1, points, index[c] as usize - 1, high), 0)
-}
-
-// An end of each entry, in the order of the heads.
-fn put_spans<'a, 'b>(
-    index: &'a [u16; 32768],
-    entries: &'a [i32; 769],
-    points: usize,
-    heads: &'a [usize; 256],
-    count: usize,
-    high: bool,
-    out: &'b mut [i32],
-    at: usize,
-) -> usize
-    requires points_bound { (points ≤ 256) × Heads index.now heads.now count }
-    requires count_in_bounds { at + length (spans_from high points index.now entries.now heads.now count) ≤ length out.old }
-    ensures { Puts out.old at (spans_from high points index.now entries.now heads.now count) out.new result }
-{
-    let mut next = at;
-    let mut i = 0;
-    while i < count {
-        out[next] = span_end(index, entries, points, heads[i], high);
-        next += 1;
-        i += 1;
+    // The heads of the entries, rising, and how many they are.
+    fn collect(&self, state: &State, heads: &mut [usize; 256]) -> usize
+        ensures { Puts heads.old 0 (codes_of (table_of self.now) (held_by self.now) (state_by self.now state.now)) heads.new result }
+    {
+        let mut count = 0;
+        for c in 0..code_count(self.table) {
+            if self.entry_under(state, c).is_some() {
+                heads[count] = c;
+                count += 1;
+            }
+        }
+        count
     }
-    next
-}
 
-// Ends of the rows and of the entries.
-fn put_ends<'a, 'b>(
-    t: &'a [i32],
-    index: &'a [u16; 32768],
-    rows: &'a [i32; 8713],
-    entries: &'a [i32; 769],
-    heads: &'a [usize; 256],
-    count: usize,
-    high: bool,
-    out: &'b mut [i32],
-    at: usize,
-) -> usize
-    requires passes { Passes t.now × Heads index.now heads.now count }
-    requires count_in_bounds { at + length (ends_from high t.now index.now rows.now entries.now heads.now count) ≤ length out.old }
-    ensures { Puts out.old at (ends_from high t.now index.now rows.now entries.now heads.now count) out.new result }
-{
-    let points = number_at(t, 3);
-    let next = put_rows(
-        rows,
-        number_at(t, 1),
-        points + number_at(t, 2),
-        high,
-        out,
-        at,
-    );
-    put_spans(index, entries, points, heads, count, high, out, next)
-}
+    // Four sizes: points, variables, mutexes, entries.
+    #[tactic(auto, using(crate::proofs::TableLaws::sizes))]
+    fn put_sizes(&self, heads: &[usize], out: &mut [i32]) -> usize
+        requires { (length heads.now ≤ 256) × (4 ≤ length out.old) }
+        ensures puts { (s : _) → heads.now ≡ codes_of (table_of self.now) (held_by self.now) s → Puts out.old 0 (sizes_out (table_of self.now) (held_by self.now) s) out.new result }
+        ensures next { result ≡ 4 }
+    {
+        let sizes = self.table.sizes;
+        let words = [
+            sizes.points as i32,
+            sizes.variables as i32,
+            sizes.mutexes as i32,
+            heads.len() as i32,
+        ];
+        put(&words, out, 0)
+    }
 
-// All words, at the front of the buffer.
-fn put_all<'a, 'b>(
-    t: &'a [i32],
-    plan: &'a [usize; 1281],
-    index: &'a [u16; 32768],
-    rows: &'a [i32; 8713],
-    entries: &'a [i32; 769],
-    heads: &'a [usize; 256],
-    count: usize,
-    out: &'b mut [i32],
-) -> usize
-    requires passes { Passes t.now × Planned t.now plan.now × Heads index.now heads.now count }
-    requires count_in_bounds { length (words_from t.now plan.now index.now rows.now entries.now heads.now count) ≤ length out.old }
-    ensures { Puts out.old 0 (words_from t.now plan.now index.now rows.now entries.now heads.now count) out.new result }
-{
-    let held = put_sizes(t, count, out);
-    let head = put_held(plan, rows, number_at(t, 3), out, held);
-    let low = put_heads(heads, count, number_at(t, 1), sets(t), out, head);
-    let high = put_ends(t, index, rows, entries, heads, count, false, out, low);
-    put_ends(t, index, rows, entries, heads, count, true, out, high)
-}
+    // The held set of the point p; -1 where no pass reached it.
+    #[tactic(auto, using(crate::proofs::TableLaws::sizes, crate::proofs::SetLaws::sets_few, crate::proofs::PlaceLaws::place_is), unfolding(proposer::specs::Propose::held_by))]
+    fn held_word(&self, state: &State, p: usize) -> i32
+        requires { p < (sizes_of (table_of self.now)).points }
+        ensures { result ≡ held_word (place_in (state_by self.now state.now).rows p) (held_by self.now p) }
+    {
+        if state.rows.at[p].is_none() {
+            return -1;
+        }
+        self.plan.held[p] as i32
+    }
 
-// The words at the front of the buffer, and how many they are.
-pub(crate) fn write<'a, 'b>(
-    t: &'a [i32],
-    plan: &'a [usize; 1281],
-    index: &'a [u16; 32768],
-    rows: &'a [i32; 8713],
-    entries: &'a [i32; 769],
-    out: &'b mut [i32],
-) -> usize
-    requires passes { Passes t.now × Planned t.now plan.now × Indexed t.now (held_in plan.now) index.now }
-    requires t_in_bounds { words_needed t.now ≤ length out.old }
-    ensures value { result ≡ length (words_of t.now (held_in plan.now) (state_in t.now rows.now entries.now)) }
-    ensures out_after { out.new ≡ words_of t.now (held_in plan.now) (state_in t.now rows.now entries.now) ++ drop result out.old }
-{
-    let mut heads = no_heads();
-    let codes = number_at(t, 0) * sets(t) * number_at(t, 1);
-    let count = collect(index, entries, codes, &mut heads);
-    put_all(t, plan, index, rows, entries, &heads, count, out)
+    // A held word for each point.
+    fn put_held(&self, state: &State, out: &mut [i32], at: usize) -> usize
+        requires { at + (sizes_of (table_of self.now)).points ≤ length out.old }
+        ensures puts { Puts out.old at (held_out (table_of self.now) (held_by self.now) (state_by self.now state.now)) out.new result }
+        ensures next { result ≡ at + (sizes_of (table_of self.now)).points }
+    {
+        put_each(
+            self.table.sizes.points,
+            |p| self.held_word(state, p),
+            out,
+            at,
+        )
+    }
+
+    // Task, held set and variable of the head c.
+    #[tactic(auto, using(crate::proofs::SetLaws::heads_few, crate::proofs::PutLaws::parts))]
+    fn put_head(&self, c: usize, out: &mut [i32], at: usize) -> usize
+        requires { (c < code_count (table_of self.now)) × (at + 3 ≤ length out.old) }
+        ensures puts { (s : _) → Puts out.old at (head_words (table_of self.now) (held_by self.now) s c) out.new result }
+        ensures next { result ≡ at + 3 }
+    {
+        let front = c / self.table.sizes.variables;
+        let words = [
+            (front / sets(self.table)) as i32,
+            (front % sets(self.table)) as i32,
+            (c % self.table.sizes.variables) as i32,
+        ];
+        put(&words, out, at)
+    }
+
+    // Three words for each entry.
+    fn put_heads(&self, heads: &[usize], out: &mut [i32], at: usize) -> usize
+        requires below { (i : ℕ) → i < length heads.now → get_or heads.now i 0 < code_count (table_of self.now) }
+        requires room { at + 3 * length heads.now ≤ length out.old }
+        ensures puts { (s : _) → heads.now ≡ codes_of (table_of self.now) (held_by self.now) s → Puts out.old at (heads_out (table_of self.now) (held_by self.now) s) out.new result }
+        ensures next { result ≡ at + 3 * length heads.now }
+    {
+        let mut next = at;
+        for &c in heads {
+            next = self.put_head(c, out, next);
+        }
+        next
+    }
+
+    // Ends of the row k; zeros where there is none.
+    #[tactic(auto, using(crate::proofs::TableLaws::sizes), unfolding(crate::specs::Write::ends_of))]
+    fn put_row(&self, state: &State, k: usize, side: Side, out: &mut [i32], at: usize) -> usize
+        requires { (k < (sizes_of (table_of self.now)).points + (sizes_of (table_of self.now)).mutexes) × (at + (sizes_of (table_of self.now)).variables ≤ length out.old) }
+        ensures puts { Puts out.old at (ends_of side (row_out (table_of self.now) (held_by self.now) (state_by self.now state.now) k)) out.new result }
+        ensures next { result ≡ at + (sizes_of (table_of self.now)).variables }
+    {
+        let row = state.rows.row_or_zeros(k);
+        let n = self.table.sizes.variables;
+        match side {
+            Side::Low => put(&row.lows[..n], out, at),
+            Side::High => put(&row.highs[..n], out, at),
+        }
+    }
+
+    // Ends of all rows: of points, then of mutexes.
+    #[tactic(auto, using(crate::proofs::TableLaws::sizes))]
+    fn put_rows(&self, state: &State, side: Side, out: &mut [i32], at: usize) -> usize
+        requires { at + ((sizes_of (table_of self.now)).points + (sizes_of (table_of self.now)).mutexes) * (sizes_of (table_of self.now)).variables ≤ length out.old }
+        ensures next { result ≡ at + ((sizes_of (table_of self.now)).points + (sizes_of (table_of self.now)).mutexes) * (sizes_of (table_of self.now)).variables }
+        ensures puts { Puts out.old at (concat_below (λ k. ends_of side (row_out (table_of self.now) (held_by self.now) (state_by self.now state.now) k)) ((sizes_of (table_of self.now)).points + (sizes_of (table_of self.now)).mutexes)) out.new result }
+    {
+        let mut next = at;
+        for k in 0..self.table.sizes.points + self.table.sizes.mutexes {
+            next = self.put_row(state, k, side, out, next);
+        }
+        next
+    }
+
+    // An end of the entry under the head c; 0 where there is none.
+    #[tactic(auto, unfolding(crate::specs::Write::ends_of, proposer::specs::Passes::row_in))]
+    fn span_end(&self, state: &State, c: usize, side: Side) -> i32
+        requires { c < code_count (table_of self.now) }
+        ensures { result ≡ word_of (ends_of side (span_of (table_of self.now) (held_by self.now) (state_by self.now state.now) c)) 0 }
+    {
+        match (self.entry_under(state, c), side) {
+            (None, _) => 0,
+            (Some(x), Side::Low) => x.low,
+            (Some(x), Side::High) => x.high,
+        }
+    }
+
+    // An end of each entry, in the order of the heads.
+    fn put_spans(
+        &self,
+        state: &State,
+        heads: &[usize],
+        side: Side,
+        out: &mut [i32],
+        at: usize,
+    ) -> usize
+        requires below { (i : ℕ) → i < length heads.now → get_or heads.now i 0 < code_count (table_of self.now) }
+        requires room { at + length heads.now ≤ length out.old }
+        ensures { Puts out.old at (map (λ c. word_of (ends_of side (span_of (table_of self.now) (held_by self.now) (state_by self.now state.now) c)) 0) heads.now) out.new result }
+    {
+        put_each(
+            heads.len(),
+            |i| self.span_end(state, heads[i], side),
+            out,
+            at,
+        )
+    }
+
+    // Ends of the rows and of the entries.
+    #[tactic(auto, using(crate::proofs::WriteLaws::heads_below))]
+    fn put_ends(
+        &self,
+        state: &State,
+        heads: &[usize],
+        side: Side,
+        out: &mut [i32],
+        at: usize,
+    ) -> usize
+        requires heads { heads.now ≡ codes_of (table_of self.now) (held_by self.now) (state_by self.now state.now) }
+        requires room { at + (((sizes_of (table_of self.now)).points + (sizes_of (table_of self.now)).mutexes) * (sizes_of (table_of self.now)).variables + length heads.now) ≤ length out.old }
+        ensures puts { Puts out.old at (ends_out (table_of self.now) (held_by self.now) (state_by self.now state.now) (ends_of side)) out.new result }
+        ensures next { result ≡ at + (((sizes_of (table_of self.now)).points + (sizes_of (table_of self.now)).mutexes) * (sizes_of (table_of self.now)).variables + length heads.now) }
+    {
+        let next = self.put_rows(state, side, out, at);
+        self.put_spans(state, heads, side, out, next)
+    }
+
+    // All words, at the front of the buffer, and how many they are.
+    #[tactic(auto, using(crate::proofs::WriteLaws::few_collected, crate::proofs::WriteLaws::collected, crate::proofs::WriteLaws::heads_below))]
+    pub(crate) fn write(&self, state: &State, out: &mut [i32]) -> usize
+        requires { words_needed (table_of self.now) ≤ length out.old }
+        ensures value { result ≡ length (words_of (table_of self.now) (held_by self.now) (state_by self.now state.now)) }
+        ensures out_after { out.new ≡ words_of (table_of self.now) (held_by self.now) (state_by self.now state.now) ++ drop result out.old }
+    {
+        let mut room = filled::<usize, 256>(0);
+        let count = self.collect(state, &mut room);
+        let heads = &room[..count];
+        let held = self.put_sizes(heads, out);
+        let head = self.put_held(state, out, held);
+        let low = self.put_heads(heads, out, head);
+        let high = self.put_ends(state, heads, Side::Low, out, low);
+        self.put_ends(state, heads, Side::High, out, high)
+    }
 }

@@ -8,14 +8,11 @@ use native.Mathlib.Omega.{arith}
 use lib.IntN.{ℤ}
 use lib.ListN.{length, get_or}
 use Rattle.words.specs.Words.{word_of, number_of}
-use Rattle.words.specs.declared.Found.{Found}
-use Rattle.words.specs.declared.Found.TheVariants.{Nothing, At}
 use Rattle.words.proofs.Bools.{clash}
 use Rattle.table.specs.Layout.{sizes_of, points_of, task_of}
 use Rattle.table.specs.Decode.{point_of}
 use Rattle.table.specs.Passes.{Passes}
-use Rattle.analysis.specs.Rows.{Row}
-use Rattle.analysis.specs.Rows.{Maybe, none, some}
+use Rattle.analysis.specs.declared.Row.{Row}
 use Rattle.rules.specs.Proposal.{entries_of, head_of, entry_low, entry_high}
 use Rattle.proposer.specs.Laws.{Words}
 use Rattle.proposer.specs.Walk.{sets_of, Brings}
@@ -27,29 +24,30 @@ use Rattle.proposer.proofs.WordLaws.{entries-is, head-is, entry-low, entry-high}
 use Rattle.proposer.proofs.CodeLaws.{pair_left, pair-right}
 use Rattle.proposer.proofs.SlotLaws.{variable-below, codes, head_code, files-head, slot-below, slot-files, slot-code}
 use Rattle.proposer.proofs.PassLaws.{Inv, row_sized}
+use Rattle.std.specs.Prelude.{Option, None, Some}
 
 module _ (t : List ℤ) (h : ℕ → ℕ) (s : State) where
   -- ---- the entry that a head has
   pub record Under (c : ℕ) : Type 0 where
     pub slot : ℕ
-    pub at : slot_of t h c ≡ At slot
+    pub at : slot_of t h c ≡ Some slot
     pub row : Row
-    pub is : place_in s.entries slot ≡ some row
+    pub is : place_in s.entries slot ≡ Some row
     pub span : span_of t h s c ≡ row
 
   pub under : (c : ℕ) → is_some (entry_under t h s c) ≡ true → Under c
   unfolding is_some entry_by row_in
   under c e = by (slot_of t h c) refl e
     where
-      inner : (q : ℕ) → slot_of t h c ≡ At q → (m : Maybe) → place_in s.entries q ≡ m → is_some m ≡ true → Under c
-      inner q z none k f = clash (sym f)
-      inner q z (some r) k f = record { slot = q; at = z; row = r; is = k; span = rw (z, k) refl }
+      inner : (q : ℕ) → slot_of t h c ≡ Some q → (m : Option Row) → place_in s.entries q ≡ m → is_some m ≡ true → Under c
+      inner q z None k f = clash (sym f)
+      inner q z (Some r) k f = record { slot = q; at = z; row = r; is = k; span = rw (z, k) refl }
 
-      by : (f : Found) → slot_of t h c ≡ f → is_some (entry_by s f) ≡ true → Under c
-      by Nothing z f = clash (sym f)
-      by (At q) z f = inner q z (place_in s.entries q) refl f
+      by : (f : Option ℕ) → slot_of t h c ≡ f → is_some (entry_by s f) ≡ true → Under c
+      by None z f = clash (sym f)
+      by (Some q) z f = inner q z (place_in s.entries q) refl f
 
-  pub filled : (c q : ℕ) (r : Row) → slot_of t h c ≡ At q → place_in s.entries q ≡ some r → is_some (entry_under t h s c) ≡ true
+  pub filled : (c q : ℕ) (r : Row) → slot_of t h c ≡ Some q → place_in s.entries q ≡ Some r → is_some (entry_under t h s c) ≡ true
   unfolding is_some entry_by
   filled c q r z k = rw (z, k) refl
 
@@ -91,7 +89,7 @@ module _ (t ts : List ℤ) (h : ℕ → ℕ) (on : ℕ → Bool) (passes : Passe
       pub slot : ℕ
       pub below : slot < (sizes_of t).points
       pub row : Row
-      pub is : place_in s.entries slot ≡ some row
+      pub is : place_in s.entries slot ≡ Some row
       pub task : head_of t (words_of t h s) i 0 ≡ task_of t slot
       pub set : head_of t (words_of t h s) i 1 ≡ h slot
       pub variable : head_of t (words_of t h s) i 2 ≡ written_to (point_of (points_of t) slot)
@@ -128,7 +126,7 @@ module _ (t ts : List ℤ) (h : ℕ → ℕ) (on : ℕ → Bool) (passes : Passe
       pub low : entry_low t (words_of t h s) index ≡ word_of r.lows 0
       pub high : entry_high t (words_of t h s) index ≡ word_of r.highs 0
 
-    pub entry-for : (c q : ℕ) (r : Row) → c < codes t → slot_of t h c ≡ At q → place_in s.entries q ≡ some r → EntryFor c r
+    pub entry-for : (c q : ℕ) (r : Row) → c < codes t → slot_of t h c ≡ Some q → place_in s.entries q ≡ Some r → EntryFor c r
     unfolding codes_of number_of entry_by row_in
     entry-for c q r l z k =
         let f = those-has (λ c. is_some (entry_under t h s c)) (codes t) c l (filled t h s c q r z k) in

@@ -22,7 +22,7 @@ use Rattle.words.proofs.PartLaws.{part_length}
 use Rattle.interval.specs.Interval.{least, greatest, Within}
 use Rattle.table.specs.Layout.{sizes_of, starts_of, first_of}
 use Rattle.table.specs.Passes.{Passes}
-use Rattle.analysis.specs.Rows.{none}
+use Rattle.analysis.specs.declared.Row.{Row}
 use Rattle.analysis.proofs.RowLaws.{tighter-refl}
 use Rattle.rules.specs.Rules.{is_first}
 use Rattle.proposer.specs.Laws.{Words, after_of, Ended}
@@ -34,6 +34,7 @@ use Rattle.proposer.proofs.ListLaws.{Forward, sum-le, sum-const, sum-tabulate, s
 use Rattle.proposer.proofs.TakeLaws.{Known, Fine, place_left, left_of, most, row-most, Grows}
 use Rattle.proposer.proofs.ValueLaws.{part-words}
 use Rattle.proposer.proofs.PassLaws.{start_row, OnPoint, starting, never, Anywhere, Inv, Onward, Still, pass-forward, pass-still}
+use Rattle.std.specs.Prelude.{Option, None}
 
 nothing : (pass : State → State) (s : State) → after_of pass s 0 ≡ s
 unfolding after_of fold_below
@@ -75,10 +76,10 @@ module _ (t ts : List ℤ) (h : ℕ → ℕ) (on : ℕ → Bool) (passes : Passe
       by true e = start-known k e
       by false e = rw (e, lt-ltb k ((sizes_of t).points + (sizes_of t).mutexes) l)
 
-  none-at : (n k : ℕ) → get_or (replicate n none) k none ≡ none
+  none-at : (n k : ℕ) → get_or {A = Option Row} (replicate n None) k None ≡ None
   none-at n k = elim (dec_lt k n) [
-    | yes l ↦ get_or-replicate n k none none l
-    | no l ↦ get_or-eq_default (replicate n none) none {n = k} (omega (arith, length-replicate n none))
+    | yes l ↦ get_or-replicate {A = Option Row} n k None None l
+    | no l ↦ get_or-eq_default {A = Option Row} (replicate n None) None {n = k} (omega (arith, length-replicate {A = Option Row} n None))
   ]
 
   pub start-inv : Inv t ts h on (start_of t)
@@ -87,11 +88,11 @@ module _ (t ts : List ℤ) (h : ℕ → ℕ) (on : ℕ → Bool) (passes : Passe
       record {
         rows = record {
           count-is = length-tabulate (λ k. start_if (begins t k) t) ((sizes_of t).points + (sizes_of t).mutexes);
-          fine = at-tabulate (Fine (sizes_of t).variables ts (starting t) (start_row t) (OnPoint t on)) (λ k. start_if (begins t k) t) ((sizes_of t).points + (sizes_of t).mutexes) none
+          fine = at-tabulate (Fine (sizes_of t).variables ts (starting t) (start_row t) (OnPoint t on)) (λ k. start_if (begins t k) t) ((sizes_of t).points + (sizes_of t).mutexes) None
               start_fine (λ k l. rw (le-ltb k ((sizes_of t).points + (sizes_of t).mutexes) l));
         };
         entries = record {
-          count-is = length-replicate (sizes_of t).points none;
+          count-is = length-replicate {A = Option Row} (sizes_of t).points None;
           fine = λ k. subst (Fine 1 ts never (start_row t) Anywhere k) (sym (none-at (sizes_of t).points k)) refl;
         };
       }
@@ -252,7 +253,7 @@ module _ (t ts : List ℤ) (h : ℕ → ℕ) (on : ℕ → Bool) (passes : Passe
 
   entries-few : entries_left (start_of t).entries ≡ (sizes_of t).points * (1 + 1 * (2 * (length ts + 1)))
   unfolding start_of place_left
-  entries-few = sum-replicate (place_left 1 ts never (start_row t) Anywhere) (sizes_of t).points none
+  entries-few = sum-replicate (place_left 1 ts never (start_row t) Anywhere) (sizes_of t).points None
 
   products : (p m v k : ℕ) → p * (1 + v * k) + m * (v * k) + p * (1 + 1 * k) ≡ 2 * p + k * (p * v + m * v + p)
   products p m v k =

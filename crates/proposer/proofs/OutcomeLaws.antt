@@ -16,19 +16,17 @@ use Rattle.words.specs.Words.{word_of}
 use Rattle.words.specs.First.{all_below}
 use Rattle.words.proofs.Bools.{clash}
 use Rattle.words.proofs.FirstLaws.{all_below-each}
-use Rattle.interval.specs.Integer.{min_z, max_z}
-use Rattle.interval.specs.Interval.{on_ends, from_to}
+use Rattle.interval.specs.Interval.{on_ends, from_to, span}
 use Rattle.interval.specs.Lattice.{is_none_of, meet_of}
 use Rattle.interval.specs.declared.Interval.{Interval}
-use Rattle.interval.specs.declared.Interval.TheVariants.{None, Between}
 use Rattle.interval.proofs.IntegerLaws.{≤_trans, le-true, le_z-yes', max-left, min-left, min-is, max-is}
 use Rattle.table.specs.Layout.{sizes_of, nodes_of}
 use Rattle.table.specs.Tree.{cond_at}
 use Rattle.table.specs.Passes.{FormedPoint}
 use Rattle.table.specs.declared.Point.{Point}
 use Rattle.table.specs.declared.Point.TheVariants.{End, Assign, Test, Lock, Unlock}
-use Rattle.analysis.specs.Rows.{Row}
-use Rattle.analysis.specs.Rows.{row_of, range_of, slots_of, own_of, Maybe, none, some, row_if, each}
+use Rattle.analysis.specs.declared.Row.{Row}
+use Rattle.analysis.specs.Rows.{row_of, range_of, slots_of, own_of, row_if, each}
 use Rattle.analysis.specs.Analysis.{narrow_of}
 use Rattle.analysis.proofs.RowLaws.{each-is}
 use Rattle.rules.specs.Held.{has_of, with_of, without_of}
@@ -38,6 +36,8 @@ use Rattle.proposer.specs.Walk.{Goes, goes_if, goes_of, Leads}
 use Rattle.proposer.proofs.WidenLaws.{Proper}
 use Rattle.proposer.proofs.TakeLaws.{ProperRow, proper-zero, at_both}
 use Rattle.proposer.proofs.ValueLaws.{ProperOn, node-proper, MaybeProper, narrow-proper}
+use Rattle.std.specs.Int.{int_min, int_max}
+use Rattle.std.specs.Prelude.{None, Option, Some}
 
 -- what holds of each outcome
 unfoldable pub AllOf : (Outcome → Type 0) → List Outcome → Type 0
@@ -91,39 +91,39 @@ pub written-proper : (t : List ℤ) (n : ℕ) (r : Row) → Words t → ProperRo
 unfolding written_of
 written-proper t n r w p = node-proper t n (own_of r) w (own-proper r p)
 
-assigned-proper : (n : ℕ) (x : Interval) (v : ℕ) (r : Row) → Sized n r → v < n → ProperOn x → MaybeProper (assigned x v r)
+assigned-proper : (n : ℕ) (x : Option Interval) (v : ℕ) (r : Row) → Sized n r → v < n → ProperOn x → MaybeProper (assigned x v r)
 unfolding assigned
 assigned-proper n None v r z l p = tt
-assigned-proper n (Between lo hi) v r z l p = set-proper n r v lo hi z l p
+assigned-proper n (Some e) v r z l p = set-proper n r v e.low e.high z l p
 
 -- ---- the meet
 some-order : (a b : ℤ) → is_none_of (from_to a b) ≡ false → a ≤ℤ b
 unfolding on_ends
 some-order a b e = by (le_z a b) refl e
   where
-    by : (t : Bool) → le_z a b ≡ t → is_none_of (cond t (Between a b) None) ≡ false → a ≤ℤ b
+    by : (t : Bool) → le_z a b ≡ t → is_none_of (cond t (span a b) None) ≡ false → a ≤ℤ b
     by true q e = le_z-yes' a b q
     by false q e = clash e
 
-range-is : (r : Row) (v : ℕ) → ProperRow r → range_of r v ≡ Between (word_of r.lows v) (word_of r.highs v)
+range-is : (r : Row) (v : ℕ) → ProperRow r → range_of r v ≡ span (word_of r.lows v) (word_of r.highs v)
 range-is r v p = rw (le-true (p.at v).ordered)
 
-meet-some : (a b c d : ℤ) → a ≤ℤ b → c ≤ℤ d → is_none_of (meet_of (Between a b) (Between c d)) ≡ false → max_z a c ≤ℤ min_z b d
+meet-some : (a b c d : ℤ) → a ≤ℤ b → c ≤ℤ d → is_none_of (meet_of (span a b) (span c d)) ≡ false → int_max a c ≤ℤ int_min b d
 unfolding meet_of on_ends
-meet-some a b c d h k e = some-order (max_z a c) (min_z b d) (rw (le-true h, le-true k) at e)
+meet-some a b c d h k e = some-order (int_max a c) (int_min b d) (rw (le-true h, le-true k) at e)
 
 meet_rows-proper : (n : ℕ) (r s : Row) → Sized n r → Sized n s → MaybeProper (meet_rows_of n r s)
 unfolding meet_rows_of row_if
 meet_rows-proper n r s z y = by (all_below (λ v. not (is_none_of (meet_of (range_of r v) (range_of s v)))) n) refl
   where
     order : (v : ℕ) → all_below (λ v. not (is_none_of (meet_of (range_of r v) (range_of s v)))) n ≡ true → v < n
-        → max_z (word_of r.lows v) (word_of s.lows v) ≤ℤ min_z (word_of r.highs v) (word_of s.highs v)
+        → int_max (word_of r.lows v) (word_of s.lows v) ≤ℤ int_min (word_of r.highs v) (word_of s.highs v)
     order v e l =
         let kept : is_none_of (meet_of (range_of r v) (range_of s v)) ≡ false = not-true _ (all_below-each (λ v. not (is_none_of (meet_of (range_of r v) (range_of s v)))) n e v l) in
         meet-some _ _ _ _ (z.proper.at v).ordered (y.proper.at v).ordered (rw (range-is r v z.proper, range-is s v y.proper) at kept)
 
     both : (v : ℕ) → all_below (λ v. not (is_none_of (meet_of (range_of r v) (range_of s v)))) n ≡ true
-        → Proper (max_z (word_of r.lows v) (word_of s.lows v)) (min_z (word_of r.highs v) (word_of s.highs v))
+        → Proper (int_max (word_of r.lows v) (word_of s.lows v)) (int_min (word_of r.highs v) (word_of s.highs v))
     both v e = elim (dec_lt v n) [
       | yes l ↦ record {
         low = ≤_trans (z.proper.at v).low (max-left _ _);
@@ -141,10 +141,10 @@ meet_rows-proper n r s z y = by (all_below (λ v. not (is_none_of (meet_of (rang
     ]
 
     by : (b : Bool) → all_below (λ v. not (is_none_of (meet_of (range_of r v) (range_of s v)))) n ≡ b
-        → MaybeProper (row_if b (some (row_of (each max_z r.lows s.lows) (each min_z r.highs s.highs))))
+        → MaybeProper (row_if b (Some (row_of (each int_max r.lows s.lows) (each int_min r.highs s.highs))))
     by false e = tt
     by true e = record {
-      at = λ v. rw (each-is max_z (max-is (≤ℤ_refl (pos 0))) r.lows s.lows v, each-is min_z (min-is (≤ℤ_refl (pos 0))) r.highs s.highs v) (both v e);
+      at = λ v. rw (each-is int_max (max-is (≤ℤ_refl (pos 0))) r.lows s.lows v, each-is int_min (min-is (≤ℤ_refl (pos 0))) r.highs s.highs v) (both v e);
     }
 
 -- ---- outcomes
@@ -155,10 +155,10 @@ module _ (t : List ℤ) (P : ℕ → ℕ → Type 0) where
     pub brings : P o.target o.held
     pub proper : ProperRow o.row
 
-  outcome-sound : (m : Maybe) (s q : ℕ) → q < (sizes_of t).points → P q s → MaybeProper m → AllOf Sound (outcome_if m s q)
+  outcome-sound : (m : Option Row) (s q : ℕ) → q < (sizes_of t).points → P q s → MaybeProper m → AllOf Sound (outcome_if m s q)
   unfolding outcome_if AllOf
-  outcome-sound none s q l b p = tt
-  outcome-sound (some r) s q l b p = (record { point = l; brings = b; proper = p }, tt)
+  outcome-sound None s q l b p = tt
+  outcome-sound (Some r) s q l b p = (record { point = l; brings = b; proper = p }, tt)
 
   -- P holds of what the instruction leads to
   abbrev pub LeadsTo : List Goes → Type 0
@@ -182,4 +182,4 @@ module _ (t : List ℤ) (P : ℕ → ℕ → Type 0) where
   outcomes-sound p (Lock m q) rest s r w f g z y =
       only-sound (not (has_of s m)) q (with_of s m) _ g (λ b. outcome-sound _ (with_of s m) q f.1.point b (meet_rows-proper (sizes_of t).variables r (rest m) z (y m)))
   outcomes-sound p (Unlock m q) rest s r w f g z y =
-      only-sound (has_of s m) q (without_of s m) _ g (λ b. outcome-sound (some r) (without_of s m) q f.1.point b z.proper)
+      only-sound (has_of s m) q (without_of s m) _ g (λ b. outcome-sound (Some r) (without_of s m) q f.1.point b z.proper)

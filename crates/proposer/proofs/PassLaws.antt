@@ -9,17 +9,14 @@ use native.Mathlib.Omega.{arith}
 use lib.Dec.{ltb}
 use lib.IntN.{ℤ}
 use Rattle.words.specs.Words.{word_of}
-use Rattle.words.specs.declared.Found.{Found}
-use Rattle.words.specs.declared.Found.TheVariants.{Nothing, At}
 use Rattle.interval.specs.declared.Interval.{Interval}
-use Rattle.interval.specs.declared.Interval.TheVariants.{None, Between}
 use Rattle.table.specs.Layout.{sizes_of, starts_of, points_of}
 use Rattle.table.specs.Decode.{point_of}
 use Rattle.table.specs.Passes.{Passes, FormedPoint}
 use Rattle.table.specs.declared.Point.{Point}
 use Rattle.table.specs.declared.Point.TheVariants.{End, Assign, Test, Lock, Unlock}
-use Rattle.analysis.specs.Rows.{Row}
-use Rattle.analysis.specs.Rows.{row_of, Maybe, none, some}
+use Rattle.analysis.specs.declared.Row.{Row}
+use Rattle.analysis.specs.Rows.{row_of}
 use Rattle.rules.specs.Outcomes.{Outcome}
 use Rattle.proposer.specs.Laws.{Words}
 use Rattle.proposer.specs.Fold.{fold_below}
@@ -32,6 +29,7 @@ use Rattle.proposer.proofs.TakeLaws.{ProperRow, proper-zero, Known, Fine, Good, 
 use Rattle.proposer.proofs.ValueLaws.{ProperOn}
 use Rattle.proposer.proofs.OutcomeLaws.{AllOf, all_map, Sized, zero-sized, set-proper, Sound, outcomes-sound, written-proper}
 use Rattle.proposer.proofs.SlotLaws.{variable-below, slot-below}
+use Rattle.std.specs.Prelude.{Option, None, Some}
 
 abbrev pub start_row : List ℤ → Row
 start_row t = row_of (starts_of t) (starts_of t)
@@ -103,23 +101,23 @@ module _ (t ts : List ℤ) (h : ℕ → ℕ) (on : ℕ → Bool) where
   at_rows s b i k = record { keeps = record { rows = k.keeps; entries = i.entries }; on = record { rows = k.on; entries = inl refl } }
 
   -- ---- the rows of a good state
-  fine-sized : (k : ℕ) (m : Maybe) → Fine (sizes_of t).variables ts (starting t) (start_row t) (OnPoint t on) k m → Sized (sizes_of t).variables (row_in (sizes_of t).variables m)
+  fine-sized : (k : ℕ) (m : Option Row) → Fine (sizes_of t).variables ts (starting t) (start_row t) (OnPoint t on) k m → Sized (sizes_of t).variables (row_in (sizes_of t).variables m)
   unfolding row_in
-  fine-sized k none f = zero-sized (sizes_of t).variables
-  fine-sized k (some r) f = record { lows = f.lows; highs = f.highs; proper = f.proper }
+  fine-sized k None f = zero-sized (sizes_of t).variables
+  fine-sized k (Some r) f = record { lows = f.lows; highs = f.highs; proper = f.proper }
 
   pub row_sized : (s : State) (k : ℕ) → Inv s → Sized (sizes_of t).variables (row_in (sizes_of t).variables (place_in s.rows k))
   row_sized s k i = fine-sized k (place_in s.rows k) (i.rows.fine k)
 
-  pub row-known : (s : State) (k : ℕ) (r : Row) → Inv s → place_in s.rows k ≡ some r → Known (sizes_of t).variables ts (starting t) (start_row t) (OnPoint t on) k r
-  row-known s k r i e = subst (λ (m : Maybe). Fine (sizes_of t).variables ts (starting t) (start_row t) (OnPoint t on) k m) e (i.rows.fine k)
+  pub row-known : (s : State) (k : ℕ) (r : Row) → Inv s → place_in s.rows k ≡ Some r → Known (sizes_of t).variables ts (starting t) (start_row t) (OnPoint t on) k r
+  row-known s k r i e = subst (λ (m : Option Row). Fine (sizes_of t).variables ts (starting t) (start_row t) (OnPoint t on) k m) e (i.rows.fine k)
 
-  pub entry_known : (s : State) (q : ℕ) (x : Row) → Inv s → place_in s.entries q ≡ some x → Known 1 ts never (start_row t) Anywhere q x
-  entry_known s q x i e = subst (λ (m : Maybe). Fine 1 ts never (start_row t) Anywhere q m) e (i.entries.fine q)
+  pub entry_known : (s : State) (q : ℕ) (x : Row) → Inv s → place_in s.entries q ≡ Some x → Known 1 ts never (start_row t) Anywhere q x
+  entry_known s q x i e = subst (λ (m : Option Row). Fine 1 ts never (start_row t) Anywhere q m) e (i.entries.fine q)
 
   module _ (passes : Passes t) (words : Words t) (brings : Brings t h on) where
     -- ---- an entry taken into a row
-    with-proper : (s : State) (k q : ℕ) (r x : Row) → Inv s → q < (sizes_of t).points → place_in s.rows k ≡ some r → place_in s.entries q ≡ some x
+    with-proper : (s : State) (k q : ℕ) (r x : Row) → Inv s → q < (sizes_of t).points → place_in s.rows k ≡ Some r → place_in s.entries q ≡ Some x
         → ProperRow (with_at r (written_to (point_of (points_of t) q)) x)
     with-proper s k q r x i l e f =
         let known = row-known s k r i e in
@@ -132,11 +130,11 @@ module _ (t ts : List ℤ) (h : ℕ → ℕ) (on : ℕ → Bool) where
     into-forward false s k q i lk lq = record { keeps = i; on = onward-same s }
     into-forward true s k q i lk lq = by (place_in s.entries q) refl (place_in s.rows k) refl
       where
-        by : (e : Maybe) → place_in s.entries q ≡ e → (m : Maybe) → place_in s.rows k ≡ m
+        by : (e : Option Row) → place_in s.entries q ≡ e → (m : Option Row) → place_in s.rows k ≡ m
             → Onto s (record { rows = take_both e m (sizes_of t).variables ts s.rows k (written_to (point_of (points_of t) q)); entries = s.entries })
-        by none ee m em = record { keeps = i; on = onward-same s }
-        by (some x) ee none em = record { keeps = i; on = onward-same s }
-        by (some x) ee (some r) em =
+        by None ee m em = record { keeps = i; on = onward-same s }
+        by (Some x) ee None em = record { keeps = i; on = onward-same s }
+        by (Some x) ee (Some r) em =
             at_rows s _ i (take-forward _ ts _ _ _ _ s.rows k (with_at r (written_to (point_of (points_of t) q)) x) i.rows lk
             (with-proper s k q r x i lq em ee) (row-known s k r i em).on)
 
@@ -154,7 +152,7 @@ module _ (t ts : List ℤ) (h : ℕ → ℕ) (on : ℕ → Bool) where
     abbrev pub Arrives : ℕ → ℕ → Type 0
     Arrives q s = (on q ≡ true) × (h q ≡ s)
 
-    pub sound-at : (s : State) (p : ℕ) (r : Row) → Inv s → p < (sizes_of t).points → place_in s.rows p ≡ some r → AllOf (Sound t Arrives) (outcomes_in t ts h s p r)
+    pub sound-at : (s : State) (p : ℕ) (r : Row) → Inv s → p < (sizes_of t).points → place_in s.rows p ≡ Some r → AllOf (Sound t Arrives) (outcomes_in t ts h s p r)
     sound-at s p r i l e =
         let known = row-known s p r i e in
         outcomes-sound t Arrives p (point_of (points_of t) p) _ (h p) r words (passes.point p l)
@@ -182,13 +180,13 @@ module _ (t ts : List ℤ) (h : ℕ → ℕ) (on : ℕ → Bool) where
         at zero = p
         at (suc v) = proper-zero
 
-    file_in-forward : (x : Interval) (c : ℕ) (f : Found) (a : Places) → slot_of t h c ≡ f → GoodEntries a → ProperOn x
+    file_in-forward : (x : Option Interval) (c : ℕ) (f : Option ℕ) (a : Places) → slot_of t h c ≡ f → GoodEntries a → ProperOn x
         → Takes 1 ts never (start_row t) Anywhere (sizes_of t).points a (file_in x f ts a)
     unfolding file_in
     file_in-forward None c f a e g p = record { keeps = g; on = inl refl }
-    file_in-forward (Between lo hi) c Nothing a e g p = record { keeps = g; on = inl refl }
-    file_in-forward (Between lo hi) c (At q) a e g p =
-        take-forward 1 ts never (start_row t) Anywhere (sizes_of t).points a q (row_of (lo ∷ []) (hi ∷ [])) g (slot-below t h c q e) (proper-one lo hi p) tt
+    file_in-forward (Some d) c None a e g p = record { keeps = g; on = inl refl }
+    file_in-forward (Some d) c (Some q) a e g p =
+        take-forward 1 ts never (start_row t) Anywhere (sizes_of t).points a q (row_of (d.low ∷ []) (d.high ∷ [])) g (slot-below t h c q e) (proper-one d.low d.high p) tt
 
     filed-forward : (x : Point) (p : ℕ) (r : Row) (a : Places) → GoodEntries a → ProperRow r → Takes 1 ts never (start_row t) Anywhere (sizes_of t).points a (filed_by x t ts h a p r)
     unfolding filed_by
@@ -199,10 +197,10 @@ module _ (t ts : List ℤ) (h : ℕ → ℕ) (on : ℕ → Bool) where
     filed-forward (Unlock m q) p r a g z = record { keeps = g; on = inl refl }
 
     -- ---- a visit
-    leave_by-forward : (m : Maybe) (s : State) (p : ℕ) → Inv s → p < (sizes_of t).points → place_in s.rows p ≡ m → Onto s (leave_by t ts h m s p)
+    leave_by-forward : (m : Option Row) (s : State) (p : ℕ) → Inv s → p < (sizes_of t).points → place_in s.rows p ≡ m → Onto s (leave_by t ts h m s p)
     unfolding leave_by
-    leave_by-forward none s p i l e = record { keeps = i; on = onward-same s }
-    leave_by-forward (some r) s p i l e =
+    leave_by-forward None s p i l e = record { keeps = i; on = onward-same s }
+    leave_by-forward (Some r) s p i l e =
         let sound = sound-at s p r i l e in
         let arrived = take_all-forward (λ o. o.target) (outcomes_in t ts h s p r) s.rows i.rows
         (all_map (Sound t Arrives) (λ (o : Outcome). (o.target < (sizes_of t).points + (sizes_of t).mutexes) × ProperRow o.row × OnPoint t on o.target)

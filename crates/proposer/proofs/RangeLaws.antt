@@ -18,8 +18,7 @@ use Rattle.words.proofs.PartLaws.{part-word}
 use Rattle.interval.proofs.IntegerLaws.{le-true}
 use Rattle.table.specs.Layout.{sizes_of}
 use Rattle.table.specs.Passes.{Passes}
-use Rattle.analysis.specs.Rows.{Row}
-use Rattle.analysis.specs.Rows.{Maybe, none, some}
+use Rattle.analysis.specs.declared.Row.{Row}
 use Rattle.rules.specs.Proposal.{entries_of, rows_of, intervals_of, heads_from, lows_from, held_of, heads_of, head_of, lows_of, highs_of, row_at, entries_at, entry_low, entry_high}
 use Rattle.rules.specs.Rules.{minus_one, rule8, is_set, held_in_range, head_in_range, rule9, before_of, rule10}
 use Rattle.proposer.specs.Laws.{Words}
@@ -33,6 +32,7 @@ use Rattle.proposer.proofs.CodeLaws.{left_below, code-above}
 use Rattle.proposer.proofs.PassLaws.{Inv, row_sized, entry_known}
 use Rattle.proposer.proofs.SlotLaws.{variable-below}
 use Rattle.proposer.proofs.EntryLaws.{entry_at, entries-few, low_fits, high_fits}
+use Rattle.std.specs.Prelude.{None, Option, Some}
 
 -- a choice of three tests, by which of them holds
 first-of : (i a b c : ℕ) (P Q R : Bool) → (i < a → P ≡ true) → (a ≤ i → i < b → Q ≡ true) → (b ≤ i → i < c → R ≡ true) → (S : Bool) → (c ≤ i → S ≡ true)
@@ -62,9 +62,9 @@ module _ (t ts : List ℤ) (h : ℕ → ℕ) (on : ℕ → Bool) (passes : Passe
   unfolding held_in_range held_of held_by number_of
   held-ok p l = rw (held_word t h s p l) (by (place_in s.rows p))
     where
-      by : (m : Maybe) → minus_one (held_by m (h p)) || is_set t (number_of (held_by m (h p))) ≡ true
-      by none = refl
-      by (some r) = lt-ltb _ _ (brings.set p)
+      by : (m : Option Row) → minus_one (held_by m (h p)) || is_set t (number_of (held_by m (h p))) ≡ true
+      by None = refl
+      by (Some r) = lt-ltb _ _ (brings.set p)
 
   head_ok : (e j : ℕ) → e < entries_of (words_of t h s) → j < 3 → head_in_range t j (head_of t (words_of t h s) e j) ≡ true
   unfolding head_in_range

@@ -14,10 +14,9 @@ use lib.Signed.{le_z, ≤ℤ_refl}
 use Rattle.words.specs.Words.{word_of, number_of}
 use Rattle.words.proofs.Bools.{clash, and-true, and_left, and_right, or_left, or_right}
 use Rattle.words.proofs.FirstLaws.{all_below-each, each-all_below, some_below-one, one-some_below}
-use Rattle.interval.specs.Interval.{from_to}
+use Rattle.interval.specs.Interval.{from_to, span}
 use Rattle.interval.specs.Lattice.{within_of, ◌⊑◌}
 use Rattle.interval.specs.declared.Interval.{Interval}
-use Rattle.interval.specs.declared.Interval.TheVariants.{None, Between}
 use Rattle.interval.proofs.IntegerLaws.{le-true, le_z-yes'}
 use Rattle.interval.proofs.LatticeLaws.{from_to-mono}
 use Rattle.table.specs.Layout.{sizes_of, starts_of, points_of, first_of, task_of}
@@ -25,8 +24,8 @@ use Rattle.table.specs.Decode.{point_of}
 use Rattle.table.specs.Passes.{Passes, FormedPoint}
 use Rattle.table.specs.declared.Point.{Point}
 use Rattle.table.specs.declared.Point.TheVariants.{End, Assign, Test, Lock, Unlock}
-use Rattle.analysis.specs.Rows.{Row}
-use Rattle.analysis.specs.Rows.{row_of, range_of, Maybe, none, some}
+use Rattle.analysis.specs.declared.Row.{Row}
+use Rattle.analysis.specs.Rows.{row_of, range_of}
 use Rattle.analysis.proofs.RowLaws.{Tighter}
 use Rattle.rules.specs.Held.{has_of, disjoint_of}
 use Rattle.rules.specs.Proposal.{entries_of, held_of, reached_of, head_of, row_at, rest_at, entry_low, entry_high}
@@ -45,13 +44,14 @@ use Rattle.proposer.proofs.WordLaws.{held_word, row_is}
 use Rattle.proposer.proofs.PassLaws.{start_row, OnPoint, starting, never, Anywhere, Inv, row-known, take_all-forward, rested-forward, sound-at, Arrives, Still}
 use Rattle.proposer.proofs.SlotLaws.{variable-below, codes, head_code, head-below, slot-found}
 use Rattle.proposer.proofs.EntryLaws.{code-task, code-set, code-variable, EntryAt, entry_at, EntryFor, entry-for, low_fits, high_fits}
+use Rattle.std.specs.Prelude.{None, Option, Some}
 
 -- ---- tests
 implies-if : (a b : Bool) → (a ≡ true → b ≡ true) → implies a b ≡ true
 implies-if true b f = f refl
 implies-if false b f = refl
 
-some_inj : {r s : Row} → some r ≡ some s → r ≡ s
+some_inj : {r s : Row} → Some r ≡ Some s → r ≡ s
 some_inj e = cc
 
 -- no end must move: the interval lies within
@@ -94,26 +94,26 @@ module _ (t ts : List ℤ) (h : ℕ → ℕ) (on : ℕ → Bool) (passes : Passe
   Rows·Covered k r = Covered (sizes_of t).variables ts (starting t) (start_row t) (OnPoint t on) s.rows k r
 
   -- ---- reading the words
-  row-at : (k : ℕ) (r : Row) → k < (sizes_of t).points + (sizes_of t).mutexes → place_in s.rows k ≡ some r → row_at t (words_of t h s) k ≡ r
+  row-at : (k : ℕ) (r : Row) → k < (sizes_of t).points + (sizes_of t).mutexes → place_in s.rows k ≡ Some r → row_at t (words_of t h s) k ≡ r
   unfolding row_in
   row-at k r l e = row_is t h s (low_fits t ts h on passes words brings s inv) (high_fits t ts h on passes words brings s inv) k l ∙ rw e refl
 
   rest-at : (m : ℕ) → m < (sizes_of t).mutexes → rest_at t (words_of t h s) m ≡ row_in (sizes_of t).variables (place_in s.rows ((sizes_of t).points + m))
   rest-at m l = row_is t h s (low_fits t ts h on passes words brings s inv) (high_fits t ts h on passes words brings s inv) ((sizes_of t).points + m) (omega arith)
 
-  held_at : (p : ℕ) (r : Row) → p < (sizes_of t).points → place_in s.rows p ≡ some r → held_of (words_of t h s) p ≡ h p
+  held_at : (p : ℕ) (r : Row) → p < (sizes_of t).points → place_in s.rows p ≡ Some r → held_of (words_of t h s) p ≡ h p
   unfolding held_of held_by number_of
   held_at p r l e = rw (held_word t h s p l, e) refl
 
-  reached-some : (p : ℕ) (X : Bool) → p < (sizes_of t).points → ((r : Row) → place_in s.rows p ≡ some r → X ≡ true) → implies (reached_of (words_of t h s) p) X ≡ true
+  reached-some : (p : ℕ) (X : Bool) → p < (sizes_of t).points → ((r : Row) → place_in s.rows p ≡ Some r → X ≡ true) → implies (reached_of (words_of t h s) p) X ≡ true
   unfolding held_of held_by number_of
   reached-some p X l f = by (place_in s.rows p) refl
     where
-      by : (m : Maybe) → place_in s.rows p ≡ m → implies (reached_of (words_of t h s) p) X ≡ true
-      by none e = rw (held_word t h s p l, e) refl
-      by (some r) e = implies-if (reached_of (words_of t h s) p) X (λ _. f r e)
+      by : (m : Option Row) → place_in s.rows p ≡ m → implies (reached_of (words_of t h s) p) X ≡ true
+      by None e = rw (held_word t h s p l, e) refl
+      by (Some r) e = implies-if (reached_of (words_of t h s) p) X (λ _. f r e)
 
-  outcomes-is : (p : ℕ) (r : Row) → p < (sizes_of t).points → place_in s.rows p ≡ some r → outcomes_of t (words_of t h s) p ≡ outcomes_in t ts h s p r
+  outcomes-is : (p : ℕ) (r : Row) → p < (sizes_of t).points → place_in s.rows p ≡ Some r → outcomes_of t (words_of t h s) p ≡ outcomes_in t ts h s p r
   unfolding outcomes_of
   outcomes-is p r l e =
       rw (held_at p r l e, row-at p r (omega arith) e)
@@ -121,18 +121,18 @@ module _ (t ts : List ℤ) (h : ℕ → ℕ) (on : ℕ → Bool) (passes : Passe
 
   -- ---- 11
   -- a place that begins with the starting values has a row that holds them
-  started : (k : ℕ) → starting t k ≡ true → (r : Row) × (place_in s.rows k ≡ some r) × Tighter (start_row t) r
+  started : (k : ℕ) → starting t k ≡ true → (r : Row) × (place_in s.rows k ≡ Some r) × Tighter (start_row t) r
   started k e = by (place_in s.rows k) refl (inv.rows.fine k)
     where
-      by : (m : Maybe) → place_in s.rows k ≡ m → Fine (sizes_of t).variables ts (starting t) (start_row t) (OnPoint t on) k m
-          → (r : Row) × (place_in s.rows k ≡ some r) × Tighter (start_row t) r
-      by none q f = clash (sym e ∙ f)
-      by (some r) q f = (r, q, f.begun e)
+      by : (m : Option Row) → place_in s.rows k ≡ m → Fine (sizes_of t).variables ts (starting t) (start_row t) (OnPoint t on) k m
+          → (r : Row) × (place_in s.rows k ≡ Some r) × Tighter (start_row t) r
+      by None q f = clash (sym e ∙ f)
+      by (Some r) q f = (r, q, f.begun e)
 
   start-holds : (r : Row) → Tighter (start_row t) r → holds_start t r ≡ true
   unfolding holds_start
   start-holds r g =
-      each-all_below (λ v. within_of (Between (word_of (starts_of t) v) (word_of (starts_of t) v)) (range_of r v)) (sizes_of t).variables
+      each-all_below (λ v. within_of (span (word_of (starts_of t) v) (word_of (starts_of t) v)) (range_of r v)) (sizes_of t).variables
       (λ v l. rw (le-true (≤ℤ_refl (word_of (starts_of t) v))) at (from_to-mono (g.low v) (g.high v)))
 
   first-starting : (p : ℕ) → p < (sizes_of t).points → is_first t p ≡ true → starting t p ≡ true
@@ -177,16 +177,16 @@ module _ (t ts : List ℤ) (h : ℕ → ℕ) (on : ℕ → Bool) (passes : Passe
   -- an entry that holds lo to hi, under the head (u, s, v)
   files-here : {u n : ℕ} (v : ℕ) (lo hi : ℤ) (i : ℕ) (x : Row) → head_of t (words_of t h s) i 0 ≡ u → head_of t (words_of t h s) i 1 ≡ n → head_of t (words_of t h s) i 2 ≡ v
       → entry_low t (words_of t h s) i ≡ word_of x.lows 0 → entry_high t (words_of t h s) i ≡ word_of x.highs 0
-      → covers_of 1 x (row_of (lo ∷ []) (hi ∷ [])) ≡ true → Proper lo hi → files t (words_of t h s) u n v (Between lo hi) i ≡ true
+      → covers_of 1 x (row_of (lo ∷ []) (hi ∷ [])) ≡ true → Proper lo hi → files t (words_of t h s) u n v (span lo hi) i ≡ true
   unfolding files
   files-here v lo hi i x eu en ev el eh c z =
       and-true (eq-eqb _ _ eu) (and-true (eq-eqb _ _ en) (and-true (eq-eqb _ _ ev)
       (rw (el, eh) (rw (le-true z.ordered) at (covers-within 1 x (row_of (lo ∷ []) (hi ∷ [])) 0 c (omega arith))))))
 
-  module _ (p : ℕ) (r : Row) (l : p < (sizes_of t).points) (e : place_in s.rows p ≡ some r) where
-    left-still : leave_by t ts h (some r) s p ≡ s
+  module _ (p : ℕ) (r : Row) (l : p < (sizes_of t).points) (e : place_in s.rows p ≡ Some r) where
+    left-still : leave_by t ts h (Some r) s p ≡ s
     unfolding leave
-    left-still = subst (λ (m : Maybe). leave_by t ts h m s p ≡ s) e (still.leaves p l)
+    left-still = subst (λ (m : Option Row). leave_by t ts h m s p ≡ s) e (still.leaves p l)
 
     rows-still : rested_by (point_of (points_of t) p) t ts (take_all (λ o. o.target) (sizes_of t).variables ts s.rows (outcomes_in t ts h s p r)) (outcomes_in t ts h s p r) ≡ s.rows
     unfolding leave_by
@@ -234,28 +234,28 @@ module _ (t ts : List ℤ) (h : ℕ → ℕ) (on : ℕ → Bool) (passes : Passe
     -- 14
     filed-by : (v : ℕ) (lo hi : ℤ) (c : ℕ) (x : Row) → EntryFor t ts h on passes words brings s inv c x → head_code t h p ≡ c
         → written_to (point_of (points_of t) p) ≡ v → covers_of 1 x (row_of (lo ∷ []) (hi ∷ [])) ≡ true → Proper lo hi
-        → filed t (words_of t h s) (task_of t p) (h p) v (Between lo hi) ≡ true
+        → filed t (words_of t h s) (task_of t p) (h p) v (span lo hi) ≡ true
     unfolding filed
     filed-by v lo hi c x i code variable covers z =
-        one-some_below (files t (words_of t h s) (task_of t p) (h p) v (Between lo hi)) (entries_of (words_of t h s)) i.index i.below
+        one-some_below (files t (words_of t h s) (task_of t p) (h p) v (span lo hi)) (entries_of (words_of t h s)) i.index i.below
         (files-here v lo hi i.index x
         (i.task ∙ ap (λ (n : ℕ). n / (sizes_of t).variables / sets_of t) (sym code) ∙ code-task t ts h on passes words brings p l)
         (i.set ∙ ap (λ (n : ℕ). n / (sizes_of t).variables % sets_of t) (sym code) ∙ code-set t ts h on passes words brings p l)
         (i.variable ∙ ap (λ (n : ℕ). n % (sizes_of t).variables) (sym code) ∙ code-variable t ts h on passes words brings p l ∙ variable)
         i.low i.high covers z)
 
-    filed-here : (v y q : ℕ) → point_of (points_of t) p ≡ Assign v y q → (x : Interval) → written_of t y r ≡ x → ProperOn x
+    filed-here : (v y q : ℕ) → point_of (points_of t) p ≡ Assign v y q → (x : Option Interval) → written_of t y r ≡ x → ProperOn x
         → filed t (words_of t h s) (task_of t p) (h p) v x ≡ true
     unfolding filed files_by written_to file_in filed_by
     filed-here v y q is None w z = refl
-    filed-here v y q is (Between lo hi) w z =
+    filed-here v y q is (Some e) w z =
         let own : files_at t h (code_of t (task_of t p) (h p) v) p ≡ true = rw is (eq-eqb (code_of t (task_of t p) (h p) v) _ refl) in
         let code : head_code t h p ≡ code_of t (task_of t p) (h p) v = rw is refl in
         let slot = slot-found t h (code_of t (task_of t p) (h p) v) p l own in
-        let kept : take_in 1 ts s.entries slot.0 (row_of (lo ∷ []) (hi ∷ [])) ≡ s.entries = rw (is, w, slot.1) at entries-still in
-        let c = take-still 1 ts never (start_row t) Anywhere s.entries slot.0 (row_of (lo ∷ []) (hi ∷ [])) calm-entries kept in
+        let kept : take_in 1 ts s.entries slot.0 (row_of (e.low ∷ []) (e.high ∷ [])) ≡ s.entries = rw (is, w, slot.1) at entries-still in
+        let c = take-still 1 ts never (start_row t) Anywhere s.entries slot.0 (row_of (e.low ∷ []) (e.high ∷ [])) calm-entries kept in
         let below = subst (λ (n : ℕ). n < codes t) code (head-below t h passes p l (brings.set p)) in
-        filed-by v lo hi (code_of t (task_of t p) (h p) v) c.row
+        filed-by v e.low e.high (code_of t (task_of t p) (h p) v) c.row
         (entry-for t ts h on passes words brings s inv (code_of t (task_of t p) (h p) v) slot.0 c.row below slot.1 c.is)
         code (rw is refl) c.covers z
 
@@ -284,7 +284,7 @@ module _ (t ts : List ℤ) (h : ℕ → ℕ) (on : ℕ → Bool) (passes : Passe
         (λ o k. (omega (arith, f.0), k.proper, λ below. absurd (omega arith))) sound) kept)
 
   -- ---- an entry taken into a row without a change
-  into-still : (k q : ℕ) (r x : Row) → q < (sizes_of t).points → place_in s.rows k ≡ some r → place_in s.entries q ≡ some x → entry_into true t ts s k q ≡ s
+  into-still : (k q : ℕ) (r x : Row) → q < (sizes_of t).points → place_in s.rows k ≡ Some r → place_in s.entries q ≡ Some x → entry_into true t ts s k q ≡ s
       → from_to (word_of x.lows 0) (word_of x.highs 0) ⊑ range_of r (written_to (point_of (points_of t) q))
   unfolding entry_into take_both
   into-still k q r x l er ex kept =
@@ -299,7 +299,7 @@ module _ (t ts : List ℤ) (h : ℕ → ℕ) (on : ℕ → Bool) (passes : Passe
         get_or-set_same r.highs v (word_of x.highs 0) (pos 0) (omega (arith, known.highs)),
       ) at (covers-within (sizes_of t).variables r (with_at r v x) v (subst (λ (y : Row). covers_of (sizes_of t).variables y (with_at r v x) ≡ true) same c.covers) lv)
 
-  takes-here : (k i : ℕ) (r : Row) → place_in s.rows k ≡ some r → (x : EntryAt t ts h on passes words brings s inv i) → entry_into true t ts s k x.slot ≡ s
+  takes-here : (k i : ℕ) (r : Row) → place_in s.rows k ≡ Some r → (x : EntryAt t ts h on passes words brings s inv i) → entry_into true t ts s k x.slot ≡ s
       → takes t (words_of t h s) r i ≡ true
   unfolding takes
   takes-here k i r e x kept = rw (x.variable, x.low, x.high) (into-still k x.slot r x.row x.below e x.is kept)
@@ -317,7 +317,7 @@ module _ (t ts : List ℤ) (h : ℕ → ℕ) (on : ℕ → Bool) (passes : Passe
   unfolding rule14
   write-ok p l = reached-some p _ l (λ r e. rw (held_at p r l e, row-at p r (omega arith) e) (writes-here p r l e (point_of (points_of t) p) refl))
 
-  undisturbed-here : (p i : ℕ) (r : Row) → p < (sizes_of t).points → i < entries_of (words_of t h s) → place_in s.rows p ≡ some r → undisturbed t (words_of t h s) p i ≡ true
+  undisturbed-here : (p i : ℕ) (r : Row) → p < (sizes_of t).points → i < entries_of (words_of t h s) → place_in s.rows p ≡ Some r → undisturbed t (words_of t h s) p i ≡ true
   unfolding undisturbed disturbs disturb
   undisturbed-here p i r l li e =
       let x = entry_at t ts h on passes words brings s inv i li in

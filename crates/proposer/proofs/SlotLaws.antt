@@ -6,8 +6,6 @@ use mathlib.Core.Bool.{true, not}
 use mathlib.Core.List.{List}
 use borrow.Author.Tests.{eqb-true, not-false}
 use lib.IntN.{ℤ}
-use Rattle.words.specs.declared.Found.{Found}
-use Rattle.words.specs.declared.Found.TheVariants.{Nothing, At}
 use Rattle.words.proofs.Bools.{clash}
 use Rattle.words.proofs.FirstLaws.{first_bad-smallest, first_bad-none}
 use Rattle.table.specs.Layout.{sizes_of, points_of, task_of}
@@ -18,6 +16,7 @@ use Rattle.table.specs.declared.Point.TheVariants.{End, Assign, Test, Lock, Unlo
 use Rattle.proposer.specs.Walk.{sets_of}
 use Rattle.proposer.specs.Passes.{code_of, files_by, files_at, slot_of, written_to}
 use Rattle.proposer.proofs.CodeLaws.{pair-below}
+use Rattle.std.specs.Prelude.{Option, None, Some}
 
 -- ---- the variable of a point
 written_below : (t : List ℤ) (p : ℕ) (x : Point) → 0 < (sizes_of t).variables → FormedPoint t p x → written_to x < (sizes_of t).variables
@@ -59,22 +58,22 @@ module _ (t : List ℤ) (h : ℕ → ℕ) where
   files-head c q e = files-code t (point_of (points_of t) q) (task_of t q) (h q) c e
 
   -- ---- slots
-  pub slot-below : (c q : ℕ) → slot_of t h c ≡ At q → q < (sizes_of t).points
+  pub slot-below : (c q : ℕ) → slot_of t h c ≡ Some q → q < (sizes_of t).points
   unfolding slot_of
   slot-below c q e = (first_bad-smallest (λ p. not (files_at t h c p)) (sizes_of t).points q e).below
 
-  pub slot-files : (c q : ℕ) → slot_of t h c ≡ At q → files_at t h c q ≡ true
+  pub slot-files : (c q : ℕ) → slot_of t h c ≡ Some q → files_at t h c q ≡ true
   unfolding slot_of
   slot-files c q e = not-false _ (first_bad-smallest (λ p. not (files_at t h c p)) (sizes_of t).points q e).fails
 
-  pub slot-code : (c q : ℕ) → slot_of t h c ≡ At q → head_code q ≡ c
+  pub slot-code : (c q : ℕ) → slot_of t h c ≡ Some q → head_code q ≡ c
   slot-code c q e = files-head c q (slot-files c q e)
 
   -- where p files under c there is a slot
-  pub slot-found : (c p : ℕ) → p < (sizes_of t).points → files_at t h c p ≡ true → (q : ℕ) × (slot_of t h c ≡ At q)
+  pub slot-found : (c p : ℕ) → p < (sizes_of t).points → files_at t h c p ≡ true → (q : ℕ) × (slot_of t h c ≡ Some q)
   unfolding slot_of
   slot-found c p l e = by (slot_of t h c) refl
     where
-      by : (f : Found) → slot_of t h c ≡ f → (q : ℕ) × (slot_of t h c ≡ At q)
-      by (At q) z = (q, z)
-      by Nothing z = clash (sym (first_bad-none (λ p. not (files_at t h c p)) (sizes_of t).points z p l) ∙ ap not e)
+      by : (f : Option ℕ) → slot_of t h c ≡ f → (q : ℕ) × (slot_of t h c ≡ Some q)
+      by (Some q) z = (q, z)
+      by None z = clash (sym (first_bad-none (λ p. not (files_at t h c p)) (sizes_of t).points z p l) ∙ ap not e)

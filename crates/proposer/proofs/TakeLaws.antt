@@ -16,12 +16,12 @@ use Rattle.words.proofs.Bools.{clash}
 use Rattle.words.proofs.FillLaws.{length-tabulate, get_d_tabulate}
 use Rattle.words.proofs.ListLaws.{at_each, tabulate-past, at-tabulate}
 use Rattle.interval.proofs.IntegerLaws.{≤_trans}
-use Rattle.analysis.specs.Rows.{Row}
-use Rattle.analysis.specs.Rows.{Maybe, none, some}
+use Rattle.analysis.specs.declared.Row.{Row}
 use Rattle.analysis.proofs.RowLaws.{Tighter}
 use Rattle.proposer.specs.Widen.{low_to, high_to, covers_of, trimmed_of, widened_of, Places, place_in, store_of, take_if, take_by, take_in}
 use Rattle.proposer.proofs.ListLaws.{sum_of, sum-set, sum_below, sum-le, sum_lt, sum-const, one-fails}
 use Rattle.proposer.proofs.WidenLaws.{Proper, lower_left, upper_left, lowers-few, uppers-few, LowTo, low-to, HighTo, high-to}
+use Rattle.std.specs.Prelude.{None, Option, Some}
 
 -- every interval of a row, and 0 to 0 past its end
 pub record ProperRow (r : Row) : Type 0 where
@@ -39,7 +39,7 @@ at_both n f g P h z v = elim (dec_lt v n) [
 ]
 
 -- what is taken from Maybe: none never is
-pub some-not-none : {r : Row} {X : Type 0} → some r ≡ none → X
+pub some-not-none : {r : Row} {X : Type 0} → Some r ≡ None → X
 some-not-none e = let z : ◌≡◌ {A = ℕ} 0 1 = cc in absurd (omega arith)
 
 -- n intervals a row; the places at which `begins` holds begin with the row `first`; `On` holds of places that have a row
@@ -51,9 +51,9 @@ module _ (n : ℕ) (ts : List ℤ) (begins : ℕ → Bool) (first : Row) (On : �
     pub on : On k
     pub begun : begins k ≡ true → Tighter first r
 
-  abbrev pub Fine : ℕ → Maybe → Type 0
-  Fine k none = begins k ≡ false
-  Fine k (some r) = Known k r
+  abbrev pub Fine : ℕ → Option Row → Type 0
+  Fine k None = begins k ≡ false
+  Fine k (Some r) = Known k r
 
   pub record Good (count : ℕ) (a : Places) : Type 0 where
     pub count-is : length a.at ≡ count
@@ -69,9 +69,9 @@ module _ (n : ℕ) (ts : List ℤ) (begins : ℕ → Bool) (first : Row) (On : �
   abbrev pub most : ℕ
   most = n * (2 * (length ts + 1))
 
-  unfoldable pub place_left : Maybe → ℕ
-  place_left none = 1 + most
-  place_left (some r) = row_left r
+  unfoldable pub place_left : Option Row → ℕ
+  place_left None = 1 + most
+  place_left (Some r) = row_left r
 
   abbrev pub left_of : Places → ℕ
   left_of a = sum_of place_left a.at
@@ -184,33 +184,33 @@ module _ (n : ℕ) (ts : List ℤ) (begins : ℕ → Bool) (first : Row) (On : �
     pub on : Grows a b
 
   module _ (count : ℕ) (a : Places) (k : ℕ) (s : Row) (good : Good count a) (below : k < count) (new : ProperRow s) (here : On k) where
-    stored : (r : Row) → Known k r → place_left (some r) < place_left (place_in a k) → Takes count a (store_of a k r)
+    stored : (r : Row) → Known k r → place_left (Some r) < place_left (place_in a k) → Takes count a (store_of a k r)
     stored r i less =
         let l : k < length a.at = omega (arith, good.count-is) in
         record {
           keeps = record {
-            count-is = length-set a.at k (some r) ∙ good.count-is;
-            fine = at_each Fine a.at k (some r) none l i (λ x _. good.fine x);
+            count-is = length-set a.at k (Some r) ∙ good.count-is;
+            fine = at_each Fine a.at k (Some r) None l i (λ x _. good.fine x);
           };
-          on = inr (record { moved = refl; less = omega (arith, sum-set place_left a.at k (some r) none l) });
+          on = inr (record { moved = refl; less = omega (arith, sum-set place_left a.at k (Some r) None l) });
         }
 
     pub take-forward : Takes count a (take_in n ts a k s)
     unfolding take_in take_if take_by place_left
     take-forward = by (place_in a k) refl (good.fine k)
       where
-        if : (r : Row) → place_in a k ≡ some r → Known k r → (b : Bool) → covers_of n r s ≡ b → Takes count a (take_if b n ts a k r s)
+        if : (r : Row) → place_in a k ≡ Some r → Known k r → (b : Bool) → covers_of n r s ≡ b → Takes count a (take_if b n ts a k r s)
         if r e i true f = record { keeps = good; on = grows_same a }
         if r e i false f = stored (widened_of n ts r s) (widened-known k r s i new) (rw e (widened-less k r s i new f))
 
-        by : (m : Maybe) → place_in a k ≡ m → Fine k m → Takes count a (take_by m n ts a k s)
-        by none e i = stored (trimmed_of n s) (trimmed-known k s new here i) (rw e (omega (arith, row-most (trimmed_of n s))))
-        by (some r) e i = if r e i (covers_of n r s) refl
+        by : (m : Option Row) → place_in a k ≡ m → Fine k m → Takes count a (take_by m n ts a k s)
+        by None e i = stored (trimmed_of n s) (trimmed-known k s new here i) (rw e (omega (arith, row-most (trimmed_of n s))))
+        by (Some r) e i = if r e i (covers_of n r s) refl
 
   -- ---- a row that changed nothing: the place has a row whose ends hold it
   pub record Covered (a : Places) (k : ℕ) (s : Row) : Type 0 where
     pub row : Row
-    pub is : place_in a k ≡ some row
+    pub is : place_in a k ≡ Some row
     pub covers : covers_of n row s ≡ true
 
   pub take-still : (a : Places) (k : ℕ) (s : Row) → a.moved ≡ false → take_in n ts a k s ≡ a → Covered a k s
@@ -220,10 +220,10 @@ module _ (n : ℕ) (ts : List ℤ) (begins : ℕ → Bool) (first : Row) (On : �
       never : {X : Type 0} {b : Places} → b.moved ≡ true → b ≡ a → X
       never m e = clash (sym m ∙ ap (λ (x : Places). x.moved) e ∙ quiet)
 
-      if : (r : Row) → place_in a k ≡ some r → (b : Bool) → covers_of n r s ≡ b → take_if b n ts a k r s ≡ a → Covered a k s
+      if : (r : Row) → place_in a k ≡ Some r → (b : Bool) → covers_of n r s ≡ b → take_if b n ts a k r s ≡ a → Covered a k s
       if r q true f e = record { row = r; is = q; covers = f }
       if r q false f e = never refl e
 
-      by : (m : Maybe) → place_in a k ≡ m → take_by m n ts a k s ≡ a → Covered a k s
-      by none q e = never refl e
-      by (some r) q e = if r q (covers_of n r s) refl e
+      by : (m : Option Row) → place_in a k ≡ m → take_by m n ts a k s ≡ a → Covered a k s
+      by None q e = never refl e
+      by (Some r) q e = if r q (covers_of n r s) refl e

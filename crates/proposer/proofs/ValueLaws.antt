@@ -12,19 +12,16 @@ use lib.ListN.{set, length-take, get_or-eq_default}
 use lib.Signed.{◌≤ℤ◌, ≤ℤ_refl}
 use Rattle.words.specs.Words.{word_of, part_of}
 use Rattle.words.proofs.PartLaws.{part-word}
-use Rattle.interval.specs.Integer.{min_z, max_z}
-use Rattle.interval.specs.Interval.{least, greatest, taken_of, Within}
+use Rattle.interval.specs.Interval.{least, greatest, taken_of, Within, span}
 use Rattle.interval.specs.Lattice.{◌⊑◌, meet_of, join_of}
 use Rattle.interval.specs.Arithmetic.{clamp_of, computed_of, negate_of, operate_of}
 use Rattle.interval.specs.declared.Interval.{Interval}
-use Rattle.interval.specs.declared.Interval.TheVariants.{None, Between}
 use Rattle.interval.specs.declared.Computed.{Computed}
 use Rattle.interval.specs.declared.Operation.{Operation}
 use Rattle.interval.specs.declared.Operation.TheVariants.{Sum, Difference, Product, Quotient, Remainder}
 use Rattle.interval.specs.declared.Comparison.{Comparison}
 use Rattle.interval.specs.declared.Comparison.TheVariants.{Less, AtMost, Equal, NotEqual}
 use Rattle.interval.specs.declared.Uncut.{Uncut}
-use Rattle.interval.specs.declared.Uncut.TheVariants.{NoPair, Pair}
 use Rattle.interval.proofs.IntegerLaws.{≤_trans, le_z-cases, min-left, min-right, max-left, max-right, min-above, max-below, min-is, max-is}
 use Rattle.interval.proofs.IntervalLaws.{first, last, on_ends-cases, on_both-cases, from_to-only}
 use Rattle.interval.proofs.LatticeLaws.{Ordered, meet-ordered, meet-within-left, within-holds}
@@ -33,46 +30,48 @@ use Rattle.table.specs.Decode.{pick, kept, operation_of, comparison_of, shape_by
 use Rattle.table.specs.Tree.{Arith, constant, input, variable, negation, binary, choice, no_arith, Cond, compare, both, either, is_not, no_cond, arith_by, arith_f, arith_at}
 use Rattle.table.specs.declared.Shape.{Shape}
 use Rattle.table.specs.declared.Shape.TheVariants.{Constant, Input, Variable, Negation, Binary, Choice, Compare, Both, Either, Not, Bad}
-use Rattle.analysis.specs.Rows.{Row}
-use Rattle.analysis.specs.Rows.{row_of, range_of, Maybe, none, some, row_if, then_row, put_of, meet_at_of, join_rows_of}
+use Rattle.analysis.specs.declared.Row.{Row}
+use Rattle.analysis.specs.Rows.{row_of, range_of, row_if, then_row, put_of, meet_at_of, join_rows_of}
 use Rattle.analysis.specs.Analysis.{range_on, carry_of, carry_both_of, value_of, narrow_of}
 use Rattle.analysis.proofs.RowLaws.{set_all, each-is}
 use Rattle.proposer.specs.Laws.{Words}
 use Rattle.proposer.proofs.WidenLaws.{Proper}
 use Rattle.proposer.proofs.TakeLaws.{ProperRow, proper-zero}
+use Rattle.std.specs.Int.{int_min, int_max}
+use Rattle.std.specs.Prelude.{None, Option, Some}
 
-abbrev pub ProperOn : Interval → Type 0
+abbrev pub ProperOn : Option Interval → Type 0
 ProperOn None = Unit {0}
-ProperOn (Between a b) = Proper a b
+ProperOn (Some e) = Proper e.low e.high
 
 -- ---- intervals
 range-proper : (r : Row) (v : ℕ) → ProperRow r → ProperOn (range_of r v)
-range-proper r v p = le_z-cases ProperOn (word_of r.lows v) (word_of r.highs v) (Between _ _) None (λ _. p.at v) (λ _. tt)
+range-proper r v p = le_z-cases ProperOn (word_of r.lows v) (word_of r.highs v) (span _ _) None (λ _. p.at v) (λ _. tt)
 
 clamp-proper : (lo hi : ℤ) → ProperOn (clamp_of lo hi)
 clamp-proper lo hi =
-    le_z-cases ProperOn (max_z lo least) (min_z hi greatest) (Between (max_z lo least) (min_z hi greatest)) None
+    le_z-cases ProperOn (int_max lo least) (int_min hi greatest) (span (int_max lo least) (int_min hi greatest)) None
     (λ h. record { low = max-right lo least; ordered = h; high = min-right hi greatest }) (λ _. tt)
 
-computed-proper : (u : Uncut) (z : Bool) → ProperOn (computed_of u z).range
+computed-proper : (u : Option Uncut) (z : Bool) → ProperOn (computed_of u z).range
 unfolding computed_of
-computed-proper NoPair z = tt
-computed-proper (Pair lo hi) z = clamp-proper lo hi
+computed-proper None z = tt
+computed-proper (Some u) z = clamp-proper u.low u.high
 
-negate-proper : (r : Interval) → ProperOn (negate_of r).range
+negate-proper : (r : Option Interval) → ProperOn (negate_of r).range
 unfolding negate_of
 negate-proper r = on_ends-cases (λ (c : Computed). ProperOn c.range) _ _ r tt (λ a b _ _. computed-proper _ _)
 
-operate-proper : (op : Operation) (r s : Interval) → ProperOn (operate_of op r s).range
+operate-proper : (op : Operation) (r s : Option Interval) → ProperOn (operate_of op r s).range
 unfolding operate_of
 operate-proper op r s = on_both-cases (λ (c : Computed). ProperOn c.range) _ _ r s tt (λ a b c d _ _ _ _. computed-proper _ _)
 
-join-proper : (r s : Interval) → ProperOn r → ProperOn s → ProperOn (join_of r s)
+join-proper : (r s : Option Interval) → ProperOn r → ProperOn s → ProperOn (join_of r s)
 unfolding join_of
 join-proper r s p q =
-    on_ends-cases ProperOn (taken_of s) _ r (on_ends-cases ProperOn None Between s tt (λ c d _ i. subst ProperOn i q)) (λ a b _ e.
+    on_ends-cases ProperOn (taken_of s) _ r (on_ends-cases ProperOn None span s tt (λ c d _ i. subst ProperOn i q)) (λ a b _ e.
     let pa : Proper a b = subst ProperOn e p in
-    on_ends-cases ProperOn (Between a b) _ s pa (λ c d _ i.
+    on_ends-cases ProperOn (span a b) _ s pa (λ c d _ i.
     let qc : Proper c d = subst ProperOn i q in
     record {
       low = min-above pa.low qc.low;
@@ -81,9 +80,9 @@ join-proper r s p q =
     }))
 
 -- ---- narrowed rows
-abbrev pub MaybeProper : Maybe → Type 0
-MaybeProper none = Unit {0}
-MaybeProper (some r) = ProperRow r
+abbrev pub MaybeProper : Option Row → Type 0
+MaybeProper None = Unit {0}
+MaybeProper (Some r) = ProperRow r
 
 -- a word put in at v
 set-at-proper : (r : Row) (v : ℕ) (a b : ℤ) → ProperRow r → word_of r.lows v ≤ℤ a → a ≤ℤ b → b ≤ℤ word_of r.highs v
@@ -99,45 +98,45 @@ set-at-proper r v a b p la ab bh =
       };
     }
 
-put-proper : (r : Row) (v : ℕ) (s : Interval) → ProperRow r → Ordered s → s ⊑ range_of r v → MaybeProper (put_of r v s)
+put-proper : (r : Row) (v : ℕ) (s : Option Interval) → ProperRow r → Ordered s → s ⊑ range_of r v → MaybeProper (put_of r v s)
 unfolding put_of
 put-proper r v None p o w = tt
-put-proper r v (Between a b) p o w = set-at-proper r v a b p (end a (first o)).low o (end b (last o)).high
+put-proper r v (Some e) p o w = set-at-proper r v e.low e.high p (end e.low (first o)).low o (end e.high (last o)).high
   where
-    end : (z : ℤ) → Within a b z → Within (word_of r.lows v) (word_of r.highs v) z
-    end z q = from_to-only (word_of r.lows v) (word_of r.highs v) z (within-holds (Between a b) (range_of r v) w z q)
+    end : (z : ℤ) → Within e.low e.high z → Within (word_of r.lows v) (word_of r.highs v) z
+    end z q = from_to-only (word_of r.lows v) (word_of r.highs v) z (within-holds (span e.low e.high) (range_of r v) w z q)
 
-meet_at-proper : (r : Row) (v : ℕ) (s : Interval) → ProperRow r → MaybeProper (meet_at_of r v s)
+meet_at-proper : (r : Row) (v : ℕ) (s : Option Interval) → ProperRow r → MaybeProper (meet_at_of r v s)
 unfolding meet_at_of
 meet_at-proper r v s p = put-proper r v (meet_of (range_of r v) s) p (meet-ordered (range_of r v) s) (meet-within-left (range_of r v) s)
 
-then-proper : (s : Maybe) (f : Row → Maybe) → MaybeProper s → ((r : Row) → ProperRow r → MaybeProper (f r)) → MaybeProper (then_row s f)
+then-proper : (s : Option Row) (f : Row → Option Row) → MaybeProper s → ((r : Row) → ProperRow r → MaybeProper (f r)) → MaybeProper (then_row s f)
 unfolding then_row
-then-proper none f p g = tt
-then-proper (some r) f p g = g r p
+then-proper None f p g = tt
+then-proper (Some r) f p g = g r p
 
-join_rows-proper : (s t : Maybe) → MaybeProper s → MaybeProper t → MaybeProper (join_rows_of s t)
+join_rows-proper : (s t : Option Row) → MaybeProper s → MaybeProper t → MaybeProper (join_rows_of s t)
 unfolding join_rows_of
-join_rows-proper none t p q = q
-join_rows-proper (some s) none p q = p
-join_rows-proper (some s) (some t) p q = record {
-  at = λ v. rw (each-is min_z (min-is (≤ℤ_refl (pos 0))) s.lows t.lows v, each-is max_z (max-is (≤ℤ_refl (pos 0))) s.highs t.highs v) (record {
+join_rows-proper None t p q = q
+join_rows-proper (Some s) None p q = p
+join_rows-proper (Some s) (Some t) p q = record {
+  at = λ v. rw (each-is int_min (min-is (≤ℤ_refl (pos 0))) s.lows t.lows v, each-is int_max (max-is (≤ℤ_refl (pos 0))) s.highs t.highs v) (record {
     low = min-above (p.at v).low (q.at v).low;
     ordered = ≤_trans (min-left _ _) (≤_trans (p.at v).ordered (max-left _ _));
     high = max-below (p.at v).high (q.at v).high;
   });
 }
 
-carry-proper : (x : Arith) (s : Interval) (r : Row) → ProperRow r → MaybeProper (carry_of x s r)
+carry-proper : (x : Arith) (s : Option Interval) (r : Row) → ProperRow r → MaybeProper (carry_of x s r)
 unfolding carry_of
 carry-proper x None r p = tt
-carry-proper (constant n z) (Between a b) r p = p
-carry-proper (input n l h) (Between a b) r p = p
-carry-proper (variable n v) (Between a b) r p = meet_at-proper r v (Between a b) p
-carry-proper (negation n x) (Between a b) r p = p
-carry-proper (binary n op x y) (Between a b) r p = p
-carry-proper (choice n c x y) (Between a b) r p = p
-carry-proper (no_arith n) (Between a b) r p = p
+carry-proper (constant n z) (Some e) r p = p
+carry-proper (input n l h) (Some e) r p = p
+carry-proper (variable n v) (Some e) r p = meet_at-proper r v (span e.low e.high) p
+carry-proper (negation n x) (Some e) r p = p
+carry-proper (binary n op x y) (Some e) r p = p
+carry-proper (choice n c x y) (Some e) r p = p
+carry-proper (no_arith n) (Some e) r p = p
 
 pub narrow-proper : (c : Cond) (w : Bool) (r : Row) → ProperRow r → MaybeProper (narrow_of c w r)
 unfolding narrow_of carry_both_of
@@ -165,15 +164,15 @@ Tame (choice n c x y) = Tame x × Tame y
 Tame (no_arith n) = Unit {0}
 
 -- a branch that is taken has a proper row
-branch-proper : (d : Bool) (s : Maybe) → MaybeProper s → MaybeProper (row_if d s)
+branch-proper : (d : Bool) (s : Option Row) → MaybeProper s → MaybeProper (row_if d s)
 unfolding row_if
 branch-proper true s p = p
 branch-proper false s p = tt
 
-on-proper : (s : Maybe) (f : Row → Interval) → MaybeProper s → ((r : Row) → ProperRow r → ProperOn (f r)) → ProperOn (range_on s f)
+on-proper : (s : Option Row) (f : Row → Option Interval) → MaybeProper s → ((r : Row) → ProperRow r → ProperOn (f r)) → ProperOn (range_on s f)
 unfolding range_on
-on-proper none f p g = tt
-on-proper (some r) f p g = g r p
+on-proper None f p g = tt
+on-proper (Some r) f p g = g r p
 
 value-proper : (x : Arith) (r : Row) → Tame x → ProperRow r → ProperOn (value_of x r)
 unfolding value_of Tame

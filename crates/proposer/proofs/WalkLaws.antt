@@ -14,8 +14,6 @@ use lib.IntN.{ℤ}
 use lib.ListN.{length, get_or, set, replicate, length-set, length-replicate}
 use lib.Pow.{pow_pos}
 use lib.Seq.{get_or-set_same, get_or-set_other, set-get_or}
-use Rattle.words.specs.declared.Found.{Found}
-use Rattle.words.specs.declared.Found.TheVariants.{Nothing, At}
 use Rattle.words.specs.First.{first_bad}
 use Rattle.words.proofs.Bools.{clash}
 use Rattle.words.proofs.FirstLaws.{first_bad-smallest, first_bad-none, all_below-each, some_below-one, one-some_below}
@@ -33,6 +31,7 @@ use Rattle.proposer.specs.Walk.{Goes, goes_if, goes_of, sets_of, mark_at, mark_c
 use Rattle.proposer.proofs.ListLaws.{sum_of, sum-set, sum-replicate, Forward, fold-forward, fold-still}
 use Rattle.proposer.proofs.WidenLaws.{bit}
 use Rattle.proposer.proofs.CodeLaws.{pair_left, pair-right, pair-below, left_below}
+use Rattle.std.specs.Prelude.{Option, None, Some}
 
 module _ (t : List ℤ) (passes : Passes t) where
   -- ---- where instructions lead
@@ -261,18 +260,18 @@ module _ (t : List ℤ) (passes : Passes t) where
   unfolding held_at held_in or_zero
   held-set p = by (first_bad (λ s. not (brought t (walks_of t) p s)) (sets_of t)) refl
     where
-      by : (f : Found) → first_bad (λ s. not (brought t (walks_of t) p s)) (sets_of t) ≡ f → or_zero f < sets_of t
-      by (At s) e = (first_bad-smallest (λ s. not (brought t (walks_of t) p s)) (sets_of t) s e).below
-      by Nothing e = pow_pos (sizes_of t).mutexes
+      by : (f : Option ℕ) → first_bad (λ s. not (brought t (walks_of t) p s)) (sets_of t) ≡ f → or_zero f < sets_of t
+      by (Some s) e = (first_bad-smallest (λ s. not (brought t (walks_of t) p s)) (sets_of t) s e).below
+      by None e = pow_pos (sizes_of t).mutexes
 
   -- a point to which a walk comes is brought its set
   pub held-brought : (p : ℕ) → walked_to t p ≡ true → brought t (walks_of t) p (held_at t p) ≡ true
   unfolding walked_to held_at held_in or_zero
   held-brought p e = by (first_bad (λ s. not (brought t (walks_of t) p s)) (sets_of t)) refl
     where
-      by : (f : Found) → first_bad (λ s. not (brought t (walks_of t) p s)) (sets_of t) ≡ f → brought t (walks_of t) p (or_zero f) ≡ true
-      by (At s) q = not-false _ (first_bad-smallest (λ s. not (brought t (walks_of t) p s)) (sets_of t) s q).fails
-      by Nothing q =
+      by : (f : Option ℕ) → first_bad (λ s. not (brought t (walks_of t) p s)) (sets_of t) ≡ f → brought t (walks_of t) p (or_zero f) ≡ true
+      by (Some s) q = not-false _ (first_bad-smallest (λ s. not (brought t (walks_of t) p s)) (sets_of t) s q).fails
+      by None q =
           let k = some_below-one (λ s. brought t (walks_of t) p s) (sets_of t) e in
           clash (sym (first_bad-none (λ s. not (brought t (walks_of t) p s)) (sets_of t) q k.0 k.1) ∙ ap not k.2)
 

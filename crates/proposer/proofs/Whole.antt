@@ -7,7 +7,6 @@ use native.Mathlib.Omega.{arith}
 use borrow.Author.Tests.{leb-true}
 use lib.IntN.{ℤ}
 use lib.ListN.{length}
-use Rattle.words.specs.declared.Stage.TheVariants.{Passed}
 use Rattle.words.proofs.FirstLaws.{first_bad-none}
 use Rattle.words.proofs.StageLaws.{refuse-found, refuse-later, test-passed, and_then-first, and_then-later}
 use Rattle.table.specs.Layout.{sizes_of}
@@ -15,7 +14,6 @@ use Rattle.table.specs.Validate.{validate_of}
 use Rattle.table.specs.Passes.{Passes}
 use Rattle.table.proofs.PassLaws as table
 use Rattle.rules.specs.Proposal.{intervals_of, heads_from, lows_from, proposal_length}
-use Rattle.checker.specs.declared.Verdict.TheVariants.{Accepted}
 use Rattle.checker.specs.AlarmList.{raised, alarm_words}
 use Rattle.checker.specs.Check.{check_of}
 use Rattle.checker.specs.Laws.{Accepts}
@@ -24,20 +22,23 @@ use Rattle.checker.proofs.Laws.{proved as check}
 use Rattle.proposer.specs.Laws.{Words, Ended}
 use Rattle.proposer.specs.Walk.{held_at, rule18, walked_to, Brings}
 use Rattle.proposer.specs.Passes.{State, start_of, begun, pass_of, pass_bound}
-use Rattle.proposer.specs.Propose.{words_needed, propose_stage, words_of, made_for, proposed_of, propose_by, propose_of}
+use Rattle.proposer.specs.Propose.{words_needed, propose_stage, words_of, made_for, proposed_of, propose_by, propose_of, given_by}
 use Rattle.proposer.proofs.MadeLaws.{Last, last-pass, all-passes}
 use Rattle.proposer.proofs.WordLaws.{whole}
 use Rattle.proposer.proofs.EntryLaws.{entries-few, low_fits, high_fits}
 use Rattle.proposer.proofs.RangeLaws.{size_ok, range-ok, order-ok}
 use Rattle.proposer.proofs.RuleLaws.{start-ok, locks-ok, flow-ok, write-ok, disturb-ok, rest_ok}
 use Rattle.proposer.proofs.WalkLaws.{walks-bring}
+use Rattle.words.specs.Stages.{passed}
+use Rattle.words.specs.declared.refusal.Rule.TheVariants.{Walks, Rise, Space}
+use Rattle.std.specs.Prelude.{Ok}
 
 words-even : (t w : List ℤ) → length (alarm_words t w) ≡ 2 * (length (alarm_words t w) / 2)
 unfolding alarm_words
 words-even t w = pairs-even (raised t w) (sizes_of t).nodes
 
-module _ (t ts : List ℤ) (room : ℕ) (words : Words t) (ok : propose_stage t ts room ≡ Passed) where
-  valid : validate_of t ≡ Passed
+module _ (t ts : List ℤ) (room : ℕ) (words : Words t) (ok : propose_stage t ts room ≡ passed) where
+  valid : validate_of t ≡ passed
   unfolding propose_stage
   valid = and_then-first (validate_of t) _ ok
 
@@ -46,13 +47,13 @@ module _ (t ts : List ℤ) (room : ℕ) (words : Words t) (ok : propose_stage t 
 
   enough : words_needed t ≤ room
   unfolding propose_stage
-  enough = leb-true _ _ (test-passed 20 _ _ _ (refuse-later 19 _ _ (and_then-later (validate_of t) _ ok)))
+  enough = leb-true _ _ (test-passed Space _ _ _ (refuse-later Rise _ _ (and_then-later (validate_of t) _ ok)))
 
   brings : Brings t (held_at t) (walked_to t)
   unfolding propose_stage
   brings =
       walks-bring t passes
-      (first_bad-none (rule18 t) (sizes_of t).points (refuse-found 18 _ _ (refuse-later 20 _ _ (refuse-later 19 _ _ (and_then-later (validate_of t) _ ok)))))
+      (first_bad-none (rule18 t) (sizes_of t).points (refuse-found Walks _ _ (refuse-later Space _ _ (refuse-later Rise _ _ (and_then-later (validate_of t) _ ok)))))
 
   -- ---- the last pass
   last : Last t ts (held_at t) (walked_to t) passes words brings (made_for t ts) (pass_bound t ts)
@@ -91,7 +92,7 @@ module _ (t ts : List ℤ) (room : ℕ) (words : Words t) (ok : propose_stage t 
         listed = even;
       }
 
-  pub accepted : (alarms : ℕ) → length (alarm_words t (proposed_of t ts)) ≤ alarms → check_of t (proposed_of t ts) alarms ≡ Accepted (length (alarm_words t (proposed_of t ts)) / 2)
+  pub accepted : (alarms : ℕ) → length (alarm_words t (proposed_of t ts)) ≤ alarms → check_of t (proposed_of t ts) alarms ≡ Ok (length (alarm_words t (proposed_of t ts)) / 2)
   accepted alarms l =
       rw proposed-is (check.accepts-back t (words_of t (held_at t) final) alarms _ (keeps alarms (rw proposed-is at l)))
 
@@ -102,8 +103,8 @@ module _ (t ts : List ℤ) (room : ℕ) (words : Words t) (ok : propose_stage t 
   pub in-room : length (proposed_of t ts) ≤ room
   in-room = omega (arith, fits, enough)
 
-  pub few-passes : (propose_of t ts room).passes ≤ pass_bound t ts
-  unfolding propose_of propose_by
+  pub few-passes : (given_by (propose_of t ts room)).passes ≤ pass_bound t ts
+  unfolding propose_of propose_by given_by
   few-passes = rw ok last.few
 
   pub settled : pass_of t ts (held_at t) (made_for t ts).state ≡ (made_for t ts).state

@@ -12,7 +12,7 @@ use Rattle.words.specs.Words.{word_of, number_of, number_at, part_of}
 use Rattle.words.proofs.FillLaws.{length-tabulate, get_d_tabulate}
 use Rattle.words.proofs.PartLaws.{part-word}
 use Rattle.table.specs.Layout.{sizes_of}
-use Rattle.analysis.specs.Rows.{Row}
+use Rattle.analysis.specs.declared.Row.{Row}
 use Rattle.analysis.specs.Rows.{row_of}
 use Rattle.rules.specs.Proposal.{entries_of, rows_of, intervals_of, heads_from, lows_from, proposal_length, held_word_of, heads_of, head_of, lows_of, highs_of, row_at, entries_at, entry_low, entry_high}
 use Rattle.proposer.specs.Fold.{concat_below}

@@ -1,20 +1,19 @@
 -- What a proposal that isn't refused is: the laws of the proposer. The function `laws_hold` has them as its contract.
 -- Assumes nothing.
-use Rattle.std.specs.Prelude.{ℕ, ◌/◌, ◌<◌, ◌≤◌, ◌≡◌, true, false, List, ◌⊎◌, ℤ, length, ◌≤ℤ◌}
+use Rattle.std.specs.Prelude.{ℕ, ◌/◌, ◌<◌, ◌≤◌, ◌≡◌, true, false, List, ◌⊎◌, ℤ, length, ◌≤ℤ◌, Ok}
 use Rattle.words.specs.Words.{word_of}
-use Rattle.words.specs.declared.Stage.TheVariants.{Passed}
 use Rattle.interval.specs.Interval.{least, greatest, Within}
 use Rattle.table.specs.Layout.{sizes_of, points_of, first_of}
 use Rattle.table.specs.Decode.{point_of}
 use Rattle.table.specs.Validate.{validate_of}
-use Rattle.checker.specs.declared.Verdict.TheVariants.{Accepted}
 use Rattle.checker.specs.AlarmList.{alarm_words}
 use Rattle.checker.specs.Check.{check_of}
 use Rattle.proposer.specs.Fold.{fold_below}
 use Rattle.proposer.specs.Walk.{goes_of, Leads, sets_of, walks_of, brought, held_at, rule18}
 use Rattle.proposer.specs.Widen.{floor_of, ceil_of, low_to, high_to}
 use Rattle.proposer.specs.Passes.{State, moved_of, start_of, pass_bound, pass_of}
-use Rattle.proposer.specs.Propose.{words_needed, propose_stage, made_for, proposed_of, propose_of}
+use Rattle.proposer.specs.Propose.{words_needed, propose_stage, made_for, proposed_of, propose_of, given_by}
+use Rattle.words.specs.Stages.{passed}
 
 -- every word of the list is a word, as in each list that the code is lent
 pub record Words (ws : List ℤ) : Type 0 where
@@ -69,18 +68,18 @@ pub record Laws : Type 0 where
   pub low-any-order : (ts : List ℤ) (old a b : ℤ) → least ≤ℤ a → least ≤ℤ b → low_to ts (low_to ts old a) b ≡ low_to ts (low_to ts old b) a
   pub high-any-order : (ts : List ℤ) (old a b : ℤ) → a ≤ℤ greatest → b ≤ℤ greatest → high_to ts (high_to ts old a) b ≡ high_to ts (high_to ts old b) a
   -- the marks are the walks, and 18 is broken at a point exactly where two of them bring different sets
-  pub walk-brought : (t : List ℤ) → validate_of t ≡ Passed → (p s : ℕ) → Walk t p s → Brought t p s
-  pub brought-walk : (t : List ℤ) → validate_of t ≡ Passed → (p s : ℕ) → Brought t p s → Walk t p s
-  pub joined : (t : List ℤ) → validate_of t ≡ Passed → (p : ℕ) → p < (sizes_of t).points → rule18 t p ≡ false → Joined t p
-  pub one_set : (t : List ℤ) → validate_of t ≡ Passed → (p s r : ℕ) → rule18 t p ≡ true → Walk t p s → Walk t p r → s ≡ r
+  pub walk-brought : (t : List ℤ) → validate_of t ≡ passed → (p s : ℕ) → Walk t p s → Brought t p s
+  pub brought-walk : (t : List ℤ) → validate_of t ≡ passed → (p s : ℕ) → Brought t p s → Walk t p s
+  pub joined : (t : List ℤ) → validate_of t ≡ passed → (p : ℕ) → p < (sizes_of t).points → rule18 t p ≡ false → Joined t p
+  pub one_set : (t : List ℤ) → validate_of t ≡ passed → (p s r : ℕ) → rule18 t p ≡ true → Walk t p s → Walk t p r → s ≡ r
   -- 'the check always accepts them with an ample alarm buffer'
-  pub accepted : (t ts : List ℤ) (room alarms : ℕ) → Words t → propose_stage t ts room ≡ Passed → length (alarm_words t (proposed_of t ts)) ≤ alarms
-      → check_of t (proposed_of t ts) alarms ≡ Accepted (length (alarm_words t (proposed_of t ts)) / 2)
+  pub accepted : (t ts : List ℤ) (room alarms : ℕ) → Words t → propose_stage t ts room ≡ passed → length (alarm_words t (proposed_of t ts)) ≤ alarms
+      → check_of t (proposed_of t ts) alarms ≡ Ok (length (alarm_words t (proposed_of t ts)) / 2)
   -- the buffer has room for the words, which have at most one entry a point
-  pub fits : (t ts : List ℤ) (room : ℕ) → Words t → propose_stage t ts room ≡ Passed → length (proposed_of t ts) ≤ words_needed t
-  pub room : (t ts : List ℤ) (room : ℕ) → Words t → propose_stage t ts room ≡ Passed → length (proposed_of t ts) ≤ room
+  pub fits : (t ts : List ℤ) (room : ℕ) → Words t → propose_stage t ts room ≡ passed → length (proposed_of t ts) ≤ words_needed t
+  pub room : (t ts : List ℤ) (room : ℕ) → Words t → propose_stage t ts room ≡ passed → length (proposed_of t ts) ≤ room
   -- the passes that are counted, with no bound in sight
-  pub ended : (t ts : List ℤ) (room : ℕ) → Words t → propose_stage t ts room ≡ Passed → Ended (pass_of t ts (held_at t)) (start_of t) (made_for t ts).passes (made_for t ts).state
+  pub ended : (t ts : List ℤ) (room : ℕ) → Words t → propose_stage t ts room ≡ passed → Ended (pass_of t ts (held_at t)) (start_of t) (made_for t ts).passes (made_for t ts).state
   -- 'the passes number at most'; a further pass would change nothing
-  pub passes : (t ts : List ℤ) (room : ℕ) → Words t → propose_stage t ts room ≡ Passed → (propose_of t ts room).passes ≤ pass_bound t ts
-  pub settled : (t ts : List ℤ) (room : ℕ) → Words t → propose_stage t ts room ≡ Passed → pass_of t ts (held_at t) (made_for t ts).state ≡ (made_for t ts).state
+  pub passes : (t ts : List ℤ) (room : ℕ) → Words t → propose_stage t ts room ≡ passed → (given_by (propose_of t ts room)).passes ≤ pass_bound t ts
+  pub settled : (t ts : List ℤ) (room : ℕ) → Words t → propose_stage t ts room ≡ passed → pass_of t ts (held_at t) (made_for t ts).state ≡ (made_for t ts).state

@@ -1,19 +1,16 @@
 -- The passes over rows and entries, by the held sets h of the points (document 02, request 4).
 -- Assumes nothing.
-use Rattle.std.specs.Prelude.{ℕ, zero, suc, ◌+◌, ◌*◌, Bool, true, false, not, ◌&&◌, ◌||◌, List, [], ◌∷◌, eqb, ltb, ℤ, pos, length, set, replicate}
-use Rattle.words.specs.declared.Found.{Found}
-use Rattle.words.specs.declared.Found.TheVariants.{Nothing, At}
+use Rattle.std.specs.Prelude.{ℕ, zero, suc, ◌+◌, ◌*◌, Bool, true, false, not, ◌&&◌, ◌||◌, List, [], ◌∷◌, eqb, ltb, ℤ, pos, length, set, replicate, Option, None, Some}
 use Rattle.words.specs.Words.{word_of}
 use Rattle.words.specs.First.{first_bad}
 use Rattle.words.specs.Tabulate.{tabulate}
 use Rattle.interval.specs.declared.Interval.{Interval}
-use Rattle.interval.specs.declared.Interval.TheVariants.{None, Between}
 use Rattle.table.specs.Layout.{sizes_of, starts_of, points_of, task_of}
 use Rattle.table.specs.Decode.{point_of}
 use Rattle.table.specs.declared.Point.{Point}
 use Rattle.table.specs.declared.Point.TheVariants.{End, Assign, Test, Lock, Unlock}
-use Rattle.analysis.specs.Rows.{Row}
-use Rattle.analysis.specs.Rows.{row_of, Maybe, none, some}
+use Rattle.analysis.specs.declared.Row.{Row}
+use Rattle.analysis.specs.Rows.{row_of}
 use Rattle.rules.specs.Held.{has_of, disjoint_of}
 use Rattle.rules.specs.Outcomes.{Outcome, written_of, outcomes_with}
 use Rattle.rules.specs.Rules.{is_first}
@@ -31,9 +28,9 @@ abbrev pub moved_of : State → Bool
 moved_of s = s.rows.moved || s.entries.moved
 
 -- 'first points and rest rows begin at the starting values'
-unfoldable pub start_if : Bool → List ℤ → Maybe
-start_if true t = some (row_of (starts_of t) (starts_of t))
-start_if false t = none
+unfoldable pub start_if : Bool → List ℤ → Option Row
+start_if true t = Some (row_of (starts_of t) (starts_of t))
+start_if false t = None
 
 abbrev pub begins : List ℤ → ℕ → Bool
 begins t k = not (ltb k (sizes_of t).points) || is_first t k
@@ -42,7 +39,7 @@ unfoldable pub start_of : List ℤ → State
 start_of t =
     record {
       rows = record { at = tabulate (λ k. start_if (begins t k) t) ((sizes_of t).points + (sizes_of t).mutexes); moved = false };
-      entries = record { at = replicate (sizes_of t).points none; moved = false };
+      entries = record { at = replicate (sizes_of t).points None; moved = false };
     }
 
 -- as a pass begins
@@ -53,9 +50,9 @@ abbrev pub begun : State → State
 begun s = record { rows = quiet s.rows; entries = quiet s.entries }
 
 -- a row, 0 where there is none
-unfoldable pub row_in : ℕ → Maybe → Row
-row_in n none = row_of (replicate n (pos 0)) (replicate n (pos 0))
-row_in n (some r) = r
+unfoldable pub row_in : ℕ → Option Row → Row
+row_in n None = row_of (replicate n (pos 0)) (replicate n (pos 0))
+row_in n (Some r) = r
 
 -- ---- heads: (task, held set, variable) as one number, in the order 'by task, set, variable'
 abbrev pub code_of : List ℤ → ℕ → ℕ → ℕ → ℕ
@@ -73,7 +70,7 @@ abbrev pub files_at : List ℤ → (ℕ → ℕ) → ℕ → ℕ → Bool
 files_at t h c p = files_by t (point_of (points_of t) p) (task_of t p) (h p) c
 
 -- where the entry under c stands: the smallest such point
-unfoldable pub slot_of : List ℤ → (ℕ → ℕ) → ℕ → Found
+unfoldable pub slot_of : List ℤ → (ℕ → ℕ) → ℕ → Option ℕ
 slot_of t h c = first_bad (λ p. not (files_at t h c p)) (sizes_of t).points
 
 unfoldable pub written_to : Point → ℕ
@@ -89,10 +86,10 @@ abbrev pub with_at : Row → ℕ → Row → Row
 with_at r v x = row_of (set r.lows v (word_of x.lows 0)) (set r.highs v (word_of x.highs 0))
 
 -- row k by the entry x of v, where both are
-unfoldable pub take_both : Maybe → Maybe → ℕ → List ℤ → Places → ℕ → ℕ → Places
-take_both none m n ts a k v = a
-take_both (some x) none n ts a k v = a
-take_both (some x) (some r) n ts a k v = take_in n ts a k (with_at r v x)
+unfoldable pub take_both : Option Row → Option Row → ℕ → List ℤ → Places → ℕ → ℕ → Places
+take_both None m n ts a k v = a
+take_both (Some x) None n ts a k v = a
+take_both (Some x) (Some r) n ts a k v = take_in n ts a k (with_at r v x)
 
 -- by the entry that stands at q, if it is to be taken in
 unfoldable pub entry_into : Bool → List ℤ → List ℤ → State → ℕ → ℕ → State
@@ -127,10 +124,10 @@ rested_by (Lock m q) t ts a l = a
 rested_by (Unlock m q) t ts a l = take_all (λ o. (sizes_of t).points + m) (sizes_of t).variables ts a l
 
 -- 'the entry by the written interval'
-unfoldable pub file_in : Interval → Found → List ℤ → Places → Places
+unfoldable pub file_in : Option Interval → Option ℕ → List ℤ → Places → Places
 file_in None f ts a = a
-file_in (Between lo hi) Nothing ts a = a
-file_in (Between lo hi) (At q) ts a = take_in 1 ts a q (row_of (lo ∷ []) (hi ∷ []))
+file_in (Some e) None ts a = a
+file_in (Some e) (Some q) ts a = take_in 1 ts a q (row_of (e.low ∷ []) (e.high ∷ []))
 
 unfoldable pub filed_by : Point → List ℤ → List ℤ → (ℕ → ℕ) → Places → ℕ → Row → Places
 filed_by End t ts h a p r = a
@@ -144,9 +141,9 @@ module _ (t ts : List ℤ) (h : ℕ → ℕ) where
   outcomes_in s p r = outcomes_with t (λ m. row_in (sizes_of t).variables (place_in s.rows ((sizes_of t).points + m))) (point_of (points_of t) p) (h p) r
 
   -- 'from that row, each target by its outcome (yes before no), the entry by the written interval, the rest row by an unlock outcome'
-  unfoldable pub leave_by : Maybe → State → ℕ → State
-  leave_by none s p = s
-  leave_by (some r) s p =
+  unfoldable pub leave_by : Option Row → State → ℕ → State
+  leave_by None s p = s
+  leave_by (Some r) s p =
       record {
         rows = rested_by (point_of (points_of t) p) t ts (take_all (λ o. o.target) (sizes_of t).variables ts s.rows (outcomes_in s p r)) (outcomes_in s p r);
         entries = filed_by (point_of (points_of t) p) t ts h s.entries p r;

@@ -1,42 +1,39 @@
 -- The whole request: refusals in order, the words written and the passes made (document 02, request 4).
 -- Assumes nothing.
-use Rattle.std.specs.Prelude.{ℕ, zero, suc, ◌+◌, ◌*◌, ◌/◌, ◌%◌, Bool, true, false, ◌&&◌, List, [], ◌∷◌, ◌++◌, map, leb, ltb, ℤ, pos, negsuc, length, get_or}
+use Rattle.std.specs.Prelude.{ℕ, zero, suc, ◌+◌, ◌*◌, ◌/◌, ◌%◌, Bool, true, false, ◌&&◌, List, [], ◌∷◌, ◌++◌, map, leb, ltb, ℤ, pos, negsuc, length, get_or, Option, None, Some, Result, Ok, Err}
 use Rattle.std.specs.Int.Signed.{lt_z}
-use Rattle.words.specs.declared.Found.{Found}
-use Rattle.words.specs.declared.Found.TheVariants.{Nothing, At}
-use Rattle.words.specs.declared.Stage.{Stage}
-use Rattle.words.specs.declared.Stage.TheVariants.{Passed, Broken}
 use Rattle.words.specs.Words.{word_of}
 use Rattle.words.specs.First.{unless, first_bad}
-use Rattle.words.specs.Stages.{refuse, and_then, buffer_by}
+use Rattle.words.specs.Stages.{refuse, and_then, buffer_by, Stage, passed}
 use Rattle.words.specs.Tabulate.{tabulate}
 use Rattle.table.specs.Layout.{sizes_of}
 use Rattle.table.specs.Validate.{validate_of}
-use Rattle.analysis.specs.Rows.{Row}
-use Rattle.analysis.specs.Rows.{Maybe, none, some}
+use Rattle.analysis.specs.declared.Row.{Row}
+use Rattle.words.specs.declared.refusal.Refusal.{Refusal}
 use Rattle.proposer.specs.declared.Proposed.{Proposed}
 use Rattle.proposer.specs.Fold.{concat_below, those}
 use Rattle.proposer.specs.Walk.{sets_of, held_at, rule18}
 use Rattle.proposer.specs.Widen.{place_in}
 use Rattle.proposer.specs.Passes.{State, row_in, slot_of, Made, made_of}
+use Rattle.words.specs.declared.refusal.Rule.TheVariants.{Rise, Space, Walks}
 
 -- ---- the words
 -- 'points that no pass reaches are marked -1'
-unfoldable pub held_by : Maybe → ℕ → ℤ
-held_by none s = negsuc 0
-held_by (some r) s = pos s
+unfoldable pub held_by : Option Row → ℕ → ℤ
+held_by None s = negsuc 0
+held_by (Some r) s = pos s
 
 -- the entry under the head c
-unfoldable pub entry_by : State → Found → Maybe
-entry_by s Nothing = none
-entry_by s (At q) = place_in s.entries q
+unfoldable pub entry_by : State → Option ℕ → Option Row
+entry_by s None = None
+entry_by s (Some q) = place_in s.entries q
 
-unfoldable pub is_some : Maybe → Bool
-is_some none = false
-is_some (some r) = true
+unfoldable pub is_some : Option Row → Bool
+is_some None = false
+is_some (Some r) = true
 
 module _ (t : List ℤ) (h : ℕ → ℕ) (s : State) where
-  abbrev pub entry_under : ℕ → Maybe
+  abbrev pub entry_under : ℕ → Option Row
   entry_under c = entry_by s (slot_of t h c)
 
   -- the heads of the entries, 'by task, set, variable'
@@ -90,10 +87,10 @@ words_needed t =
 unfoldable pub propose_stage : List ℤ → List ℤ → ℕ → Stage
 propose_stage t ts room =
     and_then (validate_of t)
-    (refuse 19 (first_bad (rule19 ts) (length ts))
-    (refuse 20 (unless (leb (words_needed t) room) (words_needed t))
-    (refuse 18 (first_bad (rule18 t) (sizes_of t).points)
-    Passed)))
+    (refuse Rise (first_bad (rule19 ts) (length ts))
+    (refuse Space (unless (leb (words_needed t) room) (words_needed t))
+    (refuse Walks (first_bad (rule18 t) (sizes_of t).points)
+    passed)))
 
 -- ---- the result: 'the words it wrote and the passes it made'
 unfoldable pub made_for : List ℤ → List ℤ → Made
@@ -102,12 +99,17 @@ made_for t ts = made_of t ts (held_at t)
 unfoldable pub proposed_of : List ℤ → List ℤ → List ℤ
 proposed_of t ts = words_of t (held_at t) (made_for t ts).state
 
-unfoldable pub propose_by : Stage → List ℤ → ℕ → Proposed
-propose_by Passed ws n = record { stage = Passed; words = length ws; passes = n }
-propose_by (Broken rule place) ws n = record { stage = Broken rule place; words = 0; passes = 0 }
+unfoldable pub propose_by : Stage → List ℤ → ℕ → Result Proposed Refusal
+propose_by (Ok u) ws n = Ok (record { words = length ws; passes = n })
+propose_by (Err e) ws n = Err e
 
-unfoldable pub propose_of : List ℤ → List ℤ → ℕ → Proposed
+unfoldable pub propose_of : List ℤ → List ℤ → ℕ → Result Proposed Refusal
 propose_of t ts room = propose_by (propose_stage t ts room) (proposed_of t ts) (made_for t ts).passes
+
+-- and what it gives in numbers: 'a refusal gives 0 for every other result'
+unfoldable pub given_by : Result Proposed Refusal → Proposed
+given_by (Ok r) = r
+given_by (Err e) = record { words = 0; passes = 0 }
 
 unfoldable pub buffer_of : List ℤ → List ℤ → List ℤ → List ℤ
 buffer_of t ts buffer = buffer_by (propose_stage t ts (length buffer)) (proposed_of t ts) buffer

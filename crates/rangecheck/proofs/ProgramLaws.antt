@@ -1,14 +1,14 @@
 -- What the tests of the program tell of the input and of its text.
 -- Assumes nothing.
 use Prim.Native.Nat.{ℕ, zero, suc, ◌+◌, ◌*◌, ◌<◌, ◌≤◌}
-use mathlib.Core.Path.{◌≡◌, refl, sym, ap, ◌∙◌}
+use mathlib.Core.Path.{◌≡◌, refl, ap}
 use mathlib.Core.Bool.{Bool, true, false}
 use mathlib.Core.List.{List, ◌++◌}
 use native.Mathlib.Omega.{arith}
-use borrow.Author.Tests.{leb-true, le-leb, lt-leb}
+use borrow.Author.Tests.{leb-true}
 use lib.Dec.{leb}
 use lib.IntN.{ℤ}
-use lib.ListN.{length, take, drop, length-append}
+use lib.ListN.{length, take, drop}
 use lib.Seq.{take_at}
 use Rattle.words.specs.Words.{word_of, number_of, number_at}
 use Rattle.words.specs.Tabulate.{tabulate}
@@ -25,37 +25,19 @@ decoded-word f e zero h = refl
 decoded-word f e (suc zero) h = refl
 decoded-word f e (suc (suc k)) h = absurd (omega arith)
 
-pub decoded-length : (b : List ℕ) (room : List ℤ) (k : ℕ) → length room ≡ 2 → 8 ≤ length b → k < 2 → number_at (decoded_of b room) k ≡ length_at b k
+pub decoded_length : (b : List ℕ) (room : List ℤ) (k : ℕ) → length room ≡ 2 → 8 ≤ length b → k < 2 → number_at (decoded_of b room) k ≡ length_at b k
 unfolding length_at
-decoded-length b room k l h s =
+decoded_length b room k l h s =
     let whole : whole_of b room ≡ 2 = omega arith in
     rw whole (ap number_of (decoded-word (word_in b) (drop 2 room) k s))
 
 -- ---- the words of a part, read to the front of a room
-module _ (f : ℕ → ℤ) (n : ℕ) {x : List ℤ} (e : List ℤ) (is : x ≡ tabulate f n ++ e) where
-  pub words_are : take n x ≡ tabulate f n
-  words_are = rw is (take_at (tabulate f n) e n (length-tabulate f n))
+pub part_words : (f : ℕ → ℤ) (n : ℕ) (e : List ℤ) → take n (tabulate f n ++ e) ≡ tabulate f n
+part_words f n e = take_at (tabulate f n) e n (length-tabulate f n)
 
-  pub words_count : n ≡ length (take n x)
-  words_count = sym (ap length words_are ∙ length-tabulate f n)
-
-  pub words-fit : n ≤ length x
-  words-fit = rw (is, length-append (tabulate f n) e, length-tabulate f n) (omega arith)
+pub ruleset parts = (part_words, length-tabulate)
 
 module _ (b : List ℕ) where
-  -- ---- the limits, as the code tests them
-  pub short-head : length b < 8 → false ≡ in_limits b
-  unfolding in_limits
-  short-head h = rw (lt-leb 8 (length b) h)
-
-  pub long-table : 8 ≤ length b → 5149 < length_at b 0 → false ≡ in_limits b
-  unfolding in_limits
-  long-table h l = rw (le-leb 8 (length b) h, lt-leb (length_at b 0) 5149 l)
-
-  pub by-proposal : 8 ≤ length b → length_at b 0 ≤ 5149 → leb (length_at b 1) 11268 ≡ in_limits b
-  unfolding in_limits
-  by-proposal h l = rw (le-leb 8 (length b) h, le-leb (length_at b 0) 5149 l)
-
   pub record Limited : Type 0 where
     pub head : 8 ≤ length b
     pub table : length_at b 0 ≤ 5149
@@ -73,39 +55,47 @@ module _ (b : List ℕ) where
         called = ap (λ (s : Bool). called_by s b) e;
       }
 
-  pub called-head : in_limits b ≡ false → 8 ≡ called_for b
-  unfolding called_for called_by
-  called-head e = rw e
+  pub limits_head : in_limits b ≡ true → 8 ≤ length b
+  limits_head e = (limited e).head
+
+  pub limits_table : in_limits b ≡ true → length_at b 0 ≤ 5149
+  limits_table e = (limited e).table
+
+  pub limits_proposal : in_limits b ≡ true → length_at b 1 ≤ 11268
+  limits_proposal e = (limited e).proposal
 
   -- ---- no bytes are missing
-  pub out-of-limits : in_limits b ≡ false → false ≡ all_there b
-  unfolding all_there
-  out-of-limits e = rw e
-
-  pub by_length : in_limits b ≡ true → leb (called_for b) (length b) ≡ all_there b
-  unfolding all_there
-  by_length e = rw e
-
   pub there-limited : all_there b ≡ true → Limited
   unfolding all_there
   there-limited e = limited (and_left _ _ e)
 
-  pub there-called : all_there b ≡ true → called_for b ≤ length b
+  pub there_head : all_there b ≡ true → 8 ≤ length b
+  there_head e = (there-limited e).head
+
+  pub there_table : all_there b ≡ true → length_at b 0 ≤ 5149
+  there_table e = (there-limited e).table
+
+  pub there_proposal : all_there b ≡ true → length_at b 1 ≤ 11268
+  there_proposal e = (there-limited e).proposal
+
+  pub there_called : all_there b ≡ true → 8 + 4 * length_at b 0 + 4 * length_at b 1 ≤ length b
   unfolding all_there
-  there-called e = leb-true (called_for b) (length b) (and_right (in_limits b) _ e)
+  there_called e =
+      let all = leb-true (called_for b) (length b) (and_right (in_limits b) _ e) in
+      omega (arith, (there-limited e).called)
 
   -- ---- the text
-  pub is-unread : all_there b ≡ false → program_of b ≡ unread
-  unfolding program_of program_by
-  is-unread e = rw e
+  -- that of the parts as the code reads them, t and p words
+  pub text_there : {t p : ℕ} {x y : List ℤ} → all_there b ≡ true → t ≡ length_at b 0 → p ≡ length_at b 1
+      → x ≡ tabulate (word_in (drop 8 b)) t → y ≡ tabulate (word_in (drop (8 + 4 * t) b)) p → printed_of x y ≡ program_of b
+  unfolding program_of program_by table_of proposal_of
+  text_there there t-is p-is x-is y-is = rw (there, x-is, y-is, t-is, p-is)
 
-  pub is-printed : all_there b ≡ true → program_of b ≡ printed_of (table_of b) (proposal_of b)
+  pub text_else : all_there b ≡ false → program_of b ≡ unread
   unfolding program_of program_by
-  is-printed e = rw e
+  text_else e = rw e
 
-  -- the text of the parts as the code reads them
-  pub of_parts : {t p : ℕ} {x y : List ℤ} (e f : List ℤ) → all_there b ≡ true → t ≡ length_at b 0 → p ≡ length_at b 1
-      → x ≡ tabulate (word_in (drop 8 b)) t ++ e → y ≡ tabulate (word_in (drop (8 + 4 * t) b)) p ++ f
-      → printed_of (take t x) (take p y) ≡ program_of b
-  unfolding table_of proposal_of
-  of_parts e f there t-is p-is x-is y-is = rw (is-printed there, words_are _ _ e x-is, words_are _ _ f y-is, t-is, p-is)
+-- what is known where the lengths lie in their limits, and where no bytes are missing
+pub ruleset limits = (limits_head, limits_table, limits_proposal)
+
+pub ruleset there = (there_head, there_table, there_proposal, there_called, text_else)

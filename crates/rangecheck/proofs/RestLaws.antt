@@ -16,11 +16,7 @@ use Rattle.words.specs.Bytes.{word_in}
 use Rattle.rangecheck.specs.Program.{length_at, table_of, proposal_of, in_limits, called_by, called_for, all_there, program_by, program_of}
 use Rattle.rangecheck.specs.Laws.{Laws}
 use Rattle.rangecheck.proofs.ProgramLaws.{there-limited}
-
-tabulate-same : (f g : ℕ → ℤ) (n : ℕ) → ((k : ℕ) → k < n → f k ≡ g k) → tabulate f n ≡ tabulate g n
-unfolding tabulate
-tabulate-same f g zero h = refl
-tabulate-same f g (suc n) h = rw (tabulate-same f g n (λ k l. h k (omega arith)), h n (omega arith))
+use Rattle.words.proofs.FillLaws.{tabulate-same}
 
 module _ (b : List ℕ) (n : ℕ) where
   byte-same : (m i : ℕ) → m + i < n → get_or (drop m (take n b)) i 0 ≡ get_or (drop m b) i 0

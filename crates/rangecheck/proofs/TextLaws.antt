@@ -1,18 +1,14 @@
--- The fewest digits that hold a number, as `io::decimal` gives them, are its decimal text; and texts put one after the other.
+-- The fewest digits that hold a number, as `io::decimal` gives them, are its decimal text.
 -- Assumes nothing.
 use Prim.Native.Nat.{ℕ, zero, suc, zero-le, ◌+◌, ◌-◌, ◌*◌, ◌/◌, ◌%◌, ◌^◌, ◌<◌, ◌≤◌}
-use mathlib.Core.Path.{◌≡◌, refl, sym, ap, subst, ◌∙◌}
+use mathlib.Core.Path.{◌≡◌, refl, sym, subst}
 use mathlib.Core.Bool.{Bool, true, false}
-use mathlib.Core.List.{List, [], ◌++◌, append_assoc}
 use native.Mathlib.Nat.{not-suc-le-zero, le_of_suc-le-suc, pow-suc, pow-le-pow_right}
 use native.Mathlib.Omega.{arith}
 use borrow.Author.Tests.{lt-ltb, le-ltb, leb-true, leb-false}
 use lib.Dec.{leb}
-use lib.ListN.{length, take, drop, length-append, length-drop, take-append-drop}
-use lib.Seq.{length-take-le, take_at, drop_at, drop-drop}
-use Rattle.io.specs.Counts.{IsPrefixLen}
 use Rattle.io.specs.Digits.{hex_digit_ascii, last_digits, IsDigitCount}
-use Rattle.rangecheck.specs.Text.{last_or, digits_in, Put}
+use Rattle.rangecheck.specs.Text.{last_or, digits_in, decimal_of}
 
 -- ---- digits
 glyph-digit : (d : ℕ) → d < 10 → hex_digit_ascii d ≡ 48 + d
@@ -30,7 +26,7 @@ tenth k n h =
     let one : 10 ^ 0 ≤ 10 ^ k = pow-le-pow_right {n = 10} (omega arith) {i = 0} {j = k} zero-le in
     ((omega arith, omega arith, λ l. subst (λ (j : ℕ). 10 ^ j ≤ n / 10) (sym (suc-less-one k)) (omega arith)), omega arith)
 
-pub fewest-digits : (k f n : ℕ) → k ≤ f → IsDigitCount 10 1 n k → last_digits 10 k n ≡ digits_in f n
+fewest-digits : (k f n : ℕ) → k ≤ f → IsDigitCount 10 1 n k → last_digits 10 k n ≡ digits_in f n
 unfolding digits_in last_or
 fewest-digits zero f n l h = absurd (not-suc-le-zero h.0)
 fewest-digits (suc k) zero n l h = absurd (not-suc-le-zero l)
@@ -48,56 +44,9 @@ few-by k n false e h b =
     absurd (omega arith)
 
 -- a number below 2^64 has at most 20 digits
-pub fewest-few : (k n : ℕ) → IsDigitCount 10 1 n k → n < 18446744073709551616 → k ≤ 20
+fewest-few : (k n : ℕ) → IsDigitCount 10 1 n k → n < 18446744073709551616 → k ≤ 20
 fewest-few k n = few-by k n (leb k 20) refl
 
--- ---- texts
-module _ {t u a : List ℕ} {at n : ℕ} (p : Put t at a u n) where
-  -- what was there up to the index, and what was put behind it
-  front_length : length (take at t ++ a) ≡ n
-  front_length =
-      let below : at ≤ length t = omega (arith, p.room, p.next-is) in
-      length-append (take at t) a ∙ ap (λ (k : ℕ). k + length a) (length-take-le at t below) ∙ sym p.next-is
-
-  regrouped : u ≡ (take at t ++ a) ++ drop n t
-  regrouped = p.is ∙ sym (append_assoc (take at t) a (drop n t))
-
-  put_front : take n u ≡ take at t ++ a
-  put_front = rw regrouped (take_at (take at t ++ a) (drop n t) n front_length)
-
-  put-behind : drop n u ≡ drop n t
-  put-behind = rw regrouped (drop_at (take at t ++ a) (drop n t) n front_length)
-
-  -- the text is as long as before
-  pub put-length : length u ≡ length t
-  put-length =
-      let rest = length-drop n t in
-      rw regrouped (length-append (take at t ++ a) (drop n t) ∙ rw (front_length, rest) (omega (arith, p.room)))
-
--- one text, and then the next
-pub then : {t u v a b : List ℕ} {at m n : ℕ} → Put t at a u m → Put u m b v n → Put t at (a ++ b) v n
-then {t} {u} {v} {a} {b} {at} {m} {n} p q =
-    let more = length-append a b in
-    let behind : drop n u ≡ drop n t =
-    rw q.next-is (sym (drop-drop (length b) m u) ∙ ap (λ (x : List ℕ). drop (length b) x) (put-behind p) ∙ drop-drop (length b) m t) in
-    record {
-      is = q.is ∙ rw (put_front p, behind) (simp append_assoc);
-      next-is = omega (arith, p.next-is, q.next-is);
-      room = omega (arith, put-length p, q.room);
-    }
-
--- an index within a text counts the bytes before it
-pub counted : (r : ℕ) (x : List ℕ) → r ≤ length x → IsPrefixLen r x
-counted r x h = (h, sym (length-take-le r x h))
-
--- a text that was put at the front
-pub put_whole : {t u a : List ℕ} {n : ℕ} → Put t 0 a u n → (n ≡ length a) × ((u ≡ a ++ drop n t) × IsPrefixLen n u)
-put_whole {t} {u} {a} {n} p = (omega (arith, p.next-is), (p.is, counted n u (omega (arith, p.room, put-length p))))
-
--- nothing is put
-pub none : (t : List ℕ) (at : ℕ) → at ≤ length t → Put t at [] t at
-none t at h = record { is = sym (take-append-drop at t); next-is = omega arith; room = h }
-
--- another name of what was put
-pub named : {t u a b : List ℕ} {at n : ℕ} → a ≡ b → Put t at a u n → Put t at b u n
-named {t} {u} {a} {b} {at} {n} e p = subst (λ (x : List ℕ). Put t at x u n) e p
+-- so the digits that `io::decimal` gives are the number's text
+pub decimal_text : (k n : ℕ) → n < 18446744073709551616 → IsDigitCount 10 1 n k → last_digits 10 k n ≡ decimal_of n
+decimal_text k n b h = fewest-digits k 20 n (fewest-few k n h b) h

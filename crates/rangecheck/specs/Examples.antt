@@ -15,13 +15,12 @@ use Rattle.table.specs.Validate.{sizes_stage, parts_stage}
 use Rattle.analysis.specs.Rows.{row_if, then_row, put_of, meet_at_of}
 use Rattle.analysis.specs.Alarms.{alarm_if, told_of, lists}
 use Rattle.analysis.specs.Analysis.{range_on, alarms_on, carry_of, carry_both_of, value_of}
-use Rattle.rules.specs.Proposal.{entries_of, intervals_of, heads_from, lows_from, proposal_length, held_word_of, held_of, heads_of, head_of, lows_of, highs_of}
-use Rattle.rules.specs.Proposal.{row_at, entries_at, entry_low, entry_high}
+use Rattle.rules.specs.Proposal.{entries_of, intervals_of, heads_from, lows_from, proposal_length, held_word_of, held_of, heads_of, head_of, lows_of, highs_of, row_at, entries_at, entry_low, entry_high}
 use Rattle.rules.specs.Outcomes.{row_within_of, assigned, written_of, outcome_if, outcomes_with, outcomes_by, outcomes_of}
-use Rattle.rules.specs.Rules.{all_outcomes, rule8, held_in_range, head_in_range, rule9, before_of, rule10, holds_start, start_point, rule11, locks_fit, rows_fit, rule12, rule13}
-use Rattle.rules.specs.Rules.{files, filed, writes, rule14, takes, disturbs, undisturbed, rule15, rests, rest_point, rest_entry, rule16}
+use Rattle.rules.specs.Rules.{all_outcomes, rule8, held_in_range, head_in_range, rule9, before_of, rule10, holds_start, start_point, rule11, locks_fit, rows_fit, rule12, rule13, files, filed, writes, rule14, takes, disturbs, undisturbed, rule15, rests, rest_point, rest_entry, rule16}
 use Rattle.rules.specs.Alarms.{alarms_by, alarms_if, alarms_at}
-use Rattle.rules.specs.Examine.{first_bad_in, layout_stage, words_stage, start_stage, outcome_stage, shared_stage, ready_of, examined_of}
+use Rattle.rules.specs.Examine.{layout_stage, words_stage, start_stage, outcome_stage, shared_stage, ready_of, examined_of}
+use Rattle.words.specs.First.{first_bad_in}
 use Rattle.checker.specs.AlarmList.{raised, pair_if, pairs_at, pairs_of, alarm_words}
 use Rattle.checker.specs.Check.{room_stage, stages_of, verdict_by, check_of}
 use Rattle.words.specs.Tabulate.{tabulate}

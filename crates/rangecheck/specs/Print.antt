@@ -1,10 +1,12 @@
 -- What the program prints of a table and a proposal: a line for the verdict, and one for each alarm (document 01, 'The run', the printing
 -- program). Each list of bytes is ASCII, and the text stands beside it.
 -- Assumes nothing.
-use Rattle.std.specs.Prelude.{ℕ, zero, suc, ◌+◌, ◌*◌, Bool, true, false, List, [], ◌∷◌, ◌++◌, ℤ, eqb}
+use Rattle.std.specs.Prelude.{ℕ, zero, suc, ◌+◌, ◌*◌, Bool, true, false, List, [], ◌∷◌, ◌++◌, ℤ, eqb, Result, Ok, Err}
+use Rattle.words.specs.declared.refusal.Rule.{Rule}
+use Rattle.words.specs.declared.refusal.Rule.TheVariants.{Length, Size, Share, Node, Point, Use, Reach, Match, Range, Order, Start, Locks, Flow, Write, Disturb, Rest, Room, Walks, Rise, Space, Short}
+use Rattle.words.specs.declared.refusal.Refusal.{Refusal}
 use Rattle.words.specs.Words.{number_at}
-use Rattle.checker.specs.declared.Verdict.{Verdict}
-use Rattle.checker.specs.declared.Verdict.TheVariants.{Accepted, Refused}
+use Rattle.words.specs.Stages.{number_by}
 use Rattle.checker.specs.AlarmList.{alarm_words}
 use Rattle.checker.specs.Check.{check_of}
 use Rattle.rangecheck.specs.Text.{decimal_of}
@@ -14,25 +16,28 @@ pick true a b = a
 pick false a b = b
 
 -- the 'trade's word' of a rule
-unfoldable pub trade_word : ℕ → List ℕ
-trade_word n =
-    pick (eqb n 1) (108 ∷ 101 ∷ 110 ∷ 103 ∷ 116 ∷ 104 ∷ [])  -- length
-    (pick (eqb n 2) (115 ∷ 105 ∷ 122 ∷ 101 ∷ [])  -- size
-    (pick (eqb n 3) (115 ∷ 104 ∷ 97 ∷ 114 ∷ 101 ∷ [])  -- share
-    (pick (eqb n 4) (110 ∷ 111 ∷ 100 ∷ 101 ∷ [])  -- node
-    (pick (eqb n 5) (112 ∷ 111 ∷ 105 ∷ 110 ∷ 116 ∷ [])  -- point
-    (pick (eqb n 6) (117 ∷ 115 ∷ 101 ∷ [])  -- use
-    (pick (eqb n 7) (114 ∷ 101 ∷ 97 ∷ 99 ∷ 104 ∷ [])  -- reach
-    (pick (eqb n 8) (109 ∷ 97 ∷ 116 ∷ 99 ∷ 104 ∷ [])  -- match
-    (pick (eqb n 9) (114 ∷ 97 ∷ 110 ∷ 103 ∷ 101 ∷ [])  -- range
-    (pick (eqb n 10) (111 ∷ 114 ∷ 100 ∷ 101 ∷ 114 ∷ [])  -- order
-    (pick (eqb n 11) (115 ∷ 116 ∷ 97 ∷ 114 ∷ 116 ∷ [])  -- start
-    (pick (eqb n 12) (108 ∷ 111 ∷ 99 ∷ 107 ∷ 115 ∷ [])  -- locks
-    (pick (eqb n 13) (102 ∷ 108 ∷ 111 ∷ 119 ∷ [])  -- flow
-    (pick (eqb n 14) (119 ∷ 114 ∷ 105 ∷ 116 ∷ 101 ∷ [])  -- write
-    (pick (eqb n 15) (100 ∷ 105 ∷ 115 ∷ 116 ∷ 117 ∷ 114 ∷ 98 ∷ [])  -- disturb
-    (pick (eqb n 16) (114 ∷ 101 ∷ 115 ∷ 116 ∷ [])  -- rest
-    (114 ∷ 111 ∷ 111 ∷ 109 ∷ []))))))))))))))))  -- room
+unfoldable pub trade_word : Rule → List ℕ
+trade_word Length = 108 ∷ 101 ∷ 110 ∷ 103 ∷ 116 ∷ 104 ∷ []  -- length
+trade_word Size = 115 ∷ 105 ∷ 122 ∷ 101 ∷ []  -- size
+trade_word Share = 115 ∷ 104 ∷ 97 ∷ 114 ∷ 101 ∷ []  -- share
+trade_word Node = 110 ∷ 111 ∷ 100 ∷ 101 ∷ []  -- node
+trade_word Point = 112 ∷ 111 ∷ 105 ∷ 110 ∷ 116 ∷ []  -- point
+trade_word Use = 117 ∷ 115 ∷ 101 ∷ []  -- use
+trade_word Reach = 114 ∷ 101 ∷ 97 ∷ 99 ∷ 104 ∷ []  -- reach
+trade_word Match = 109 ∷ 97 ∷ 116 ∷ 99 ∷ 104 ∷ []  -- match
+trade_word Range = 114 ∷ 97 ∷ 110 ∷ 103 ∷ 101 ∷ []  -- range
+trade_word Order = 111 ∷ 114 ∷ 100 ∷ 101 ∷ 114 ∷ []  -- order
+trade_word Start = 115 ∷ 116 ∷ 97 ∷ 114 ∷ 116 ∷ []  -- start
+trade_word Locks = 108 ∷ 111 ∷ 99 ∷ 107 ∷ 115 ∷ []  -- locks
+trade_word Flow = 102 ∷ 108 ∷ 111 ∷ 119 ∷ []  -- flow
+trade_word Write = 119 ∷ 114 ∷ 105 ∷ 116 ∷ 101 ∷ []  -- write
+trade_word Disturb = 100 ∷ 105 ∷ 115 ∷ 116 ∷ 117 ∷ 114 ∷ 98 ∷ []  -- disturb
+trade_word Rest = 114 ∷ 101 ∷ 115 ∷ 116 ∷ []  -- rest
+trade_word Room = 114 ∷ 111 ∷ 111 ∷ 109 ∷ []  -- room
+trade_word Walks = 119 ∷ 97 ∷ 108 ∷ 107 ∷ 115 ∷ []  -- walks
+trade_word Rise = 114 ∷ 105 ∷ 115 ∷ 101 ∷ []  -- rise
+trade_word Space = 115 ∷ 112 ∷ 97 ∷ 99 ∷ 101 ∷ []  -- space
+trade_word Short = 115 ∷ 104 ∷ 111 ∷ 114 ∷ 116 ∷ []  -- short
 
 -- a kind's end of a line: ' overflow' for 1, else ' zero'
 unfoldable pub kind_text : ℕ → List ℕ
@@ -52,15 +57,15 @@ unfoldable pub accepted_text : List ℤ → ℕ → List ℕ
 accepted_text alarms n = ((97 ∷ 99 ∷ 99 ∷ 101 ∷ 112 ∷ 116 ∷ 101 ∷ 100 ∷ 32 ∷ []) ++ (decimal_of n ++ (10 ∷ []))) ++ lines_of alarms n
 
 -- 'refused N WORD at PLACE'
-unfoldable pub refused_text : ℕ → ℕ → List ℕ
+unfoldable pub refused_text : Rule → ℕ → List ℕ
 refused_text rule place =
     (114 ∷ 101 ∷ 102 ∷ 117 ∷ 115 ∷ 101 ∷ 100 ∷ 32 ∷ [])
-    ++ (decimal_of rule ++ ((32 ∷ []) ++ (trade_word rule ++ ((32 ∷ 97 ∷ 116 ∷ 32 ∷ []) ++ (decimal_of place ++ (10 ∷ []))))))
+    ++ (decimal_of (number_by rule) ++ ((32 ∷ []) ++ (trade_word rule ++ ((32 ∷ 97 ∷ 116 ∷ 32 ∷ []) ++ (decimal_of place ++ (10 ∷ []))))))
 
 -- the text of a verdict, with the alarm list
-unfoldable pub text_of : Verdict → List ℤ → List ℕ
-text_of (Accepted n) alarms = accepted_text alarms n
-text_of (Refused rule place) alarms = refused_text rule place
+unfoldable pub text_of : Result ℕ Refusal → List ℤ → List ℕ
+text_of (Ok n) alarms = accepted_text alarms n
+text_of (Err e) alarms = refused_text e.rule e.place
 
 -- what is printed of a table and a proposal; the program 'lends 4096 alarm words'
 unfoldable pub printed_of : List ℤ → List ℤ → List ℕ

@@ -1,6 +1,6 @@
--- Text in ASCII: a number in decimal, and bytes put into a text.
+-- Text in ASCII: a number in decimal.
 -- Assumes nothing.
-use Rattle.std.specs.Prelude.{ℕ, zero, suc, ◌+◌, ◌/◌, ◌%◌, ◌≤◌, ◌≡◌, Bool, true, false, List, [], ◌∷◌, ◌++◌, ltb, length, take, drop}
+use Rattle.std.specs.Prelude.{ℕ, zero, suc, ◌+◌, ◌/◌, ◌%◌, Bool, true, false, List, [], ◌∷◌, ◌++◌, ltb}
 
 -- the last digit alone, where it is all; else behind those before it
 unfoldable pub last_or : Bool → List ℕ → ℕ → List ℕ
@@ -15,10 +15,3 @@ digits_in (suc k) n = last_or (ltb n 10) (digits_in k (n / 10)) (n % 10)
 -- a number below 2^64 has at most 20 digits
 abbrev pub decimal_of : ℕ → List ℕ
 decimal_of n = digits_in 20 n
-
--- the text after is the text before with bytes put at an index, up to the next one, and there was room for them; a record, so that a proof need
--- not write the lists
-pub record Put (before : List ℕ) (at : ℕ) (added after : List ℕ) (next : ℕ) : Type 0 where
-  pub is : after ≡ take at before ++ (added ++ drop next before)
-  pub next-is : next ≡ at + length added
-  pub room : next ≤ length before

@@ -9,19 +9,8 @@ ghost use Rattle.std.specs.Prelude.{◌≡◌, ◌+◌, ◌≤◌, length, take,
 ghost use Rattle.io.specs.Counts.{IsPrefixLen};
 
 use crate::program::{called_for, respond};
-
-// Room, as zeros. The `ensures` gives only the length, so that no proof unfolds the array.
-fn input_room() -> [u8; 65676]
-    ensures { 65676 ≡ length result }
-{
-    [0; 65676]
-}
-
-fn text_room() -> [u8; 72000]
-    ensures { 72000 ≡ length result }
-{
-    [0; 72000]
-}
+use crate::text::Text;
+use words::filled;
 
 // Reads to a part of the room until it is full or the input ends; how many bytes came. What lies before the part and behind it stays.
 fn read_at(room: &mut [u8], from: usize, to: usize) -> usize
@@ -47,9 +36,9 @@ fn read_input(room: &mut [u8]) -> usize
 }
 
 fn main() {
-    let mut input = input_room();
+    let mut text = Text::new();
+    let mut input: [u8; 65676] = filled(0);
     let n = read_input(&mut input);
-    let mut text = text_room();
-    let k = respond(&input[..n], &mut text);
-    io::write_all(1, &text[..k]);
+    respond(&input[..n], &mut text);
+    io::write_all(1, text.bytes());
 }

@@ -1,78 +1,81 @@
-// The text of a verdict and of its alarms, put into a lent buffer.
-ghost use Rattle.std.specs.Prelude.{◌+◌, ◌≤◌, ◌<◌, length};
-ghost use Rattle.rangecheck.specs.Text.{Put};
+// The text of a verdict and of its alarms.
+ghost use Rattle.std.specs.Prelude.{◌≡◌, ◌++◌, ◌+◌, ◌≤◌, ◌<◌, length};
 ghost use Rattle.rangecheck.specs.Print.{trade_word, line_of, accepted_text, refused_text};
 
-use crate::text::{put, put_decimal};
-use words::number_at;
+use crate::text::Text;
+use words::{Refusal, Rule, number_at};
 
-// Puts a rule's word, at most 7 bytes.
-fn put_word(text: &mut [u8], at: usize, rule: u32) -> usize
-    requires { at + 7 ≤ length text.old }
-    ensures next { result ≤ at + 7 }
-    ensures text { Put text.old at (trade_word rule) text.new result }
+// A rule's word, at most 7 bytes.
+#[tactic(auto, unfolding(crate::specs::Print::trade_word))]
+fn word_of(rule: Rule) -> &'static [u8]
+    ensures text { result.now ≡ trade_word rule }
+    ensures few { length result.now ≤ 7 }
 {
     match rule {
-        1 => return put(text, at, b"length"),
-        2 => return put(text, at, b"size"),
-        3 => return put(text, at, b"share"),
-        4 => return put(text, at, b"node"),
-        5 => return put(text, at, b"point"),
-        6 => return put(text, at, b"use"),
-        7 => return put(text, at, b"reach"),
-        8 => return put(text, at, b"match"),
-        9 => return put(text, at, b"range"),
-        10 => return put(text, at, b"order"),
-        11 => return put(text, at, b"start"),
-        12 => return put(text, at, b"locks"),
-        13 => return put(text, at, b"flow"),
-        14 => return put(text, at, b"write"),
-        15 => return put(text, at, b"disturb"),
-        16 => return put(text, at, b"rest"),
-        _ => return put(text, at, b"room"),
+        Rule::Length => b"length",
+        Rule::Size => b"size",
+        Rule::Share => b"share",
+        Rule::Node => b"node",
+        Rule::Point => b"point",
+        Rule::Use => b"use",
+        Rule::Reach => b"reach",
+        Rule::Match => b"match",
+        Rule::Range => b"range",
+        Rule::Order => b"order",
+        Rule::Start => b"start",
+        Rule::Locks => b"locks",
+        Rule::Flow => b"flow",
+        Rule::Write => b"write",
+        Rule::Disturb => b"disturb",
+        Rule::Rest => b"rest",
+        Rule::Room => b"room",
+        Rule::Walks => b"walks",
+        Rule::Rise => b"rise",
+        Rule::Space => b"space",
+        Rule::Short => b"short",
     }
 }
 
 // Puts the line of alarm k, at most 35 bytes.
-fn put_alarm(text: &mut [u8], at: usize, alarms: &[i32], k: usize) -> usize
-    requires { (at + 35 ≤ length text.old) × (k < 2048) }
-    ensures next { result ≤ at + 35 }
-    ensures text { Put text.old at (line_of alarms.now k) text.new result }
+#[tactic(auto, unfolding(crate::specs::Print::pick, crate::specs::Print::kind_text, crate::specs::Print::line_of))]
+fn put_alarm(text: &mut Text, alarms: &[i32], k: usize)
+    requires { (length text.old + 35 ≤ 72000) × (k < 2048) }
+    ensures text { text.new ≡ text.old ++ line_of alarms.now k }
+    ensures few { length text.new ≤ length text.old + 35 }
 {
-    let node = put(text, at, b"node ");
-    let kind = put_decimal(text, node, number_at(alarms, 2 * k) as u64);
+    text.put(b"node ");
+    text.put_decimal(number_at(alarms, 2 * k) as u64);
     if number_at(alarms, 2 * k + 1) == 1 {
-        return put(text, kind, b" overflow\n");
+        text.put(b" overflow\n");
+    } else {
+        text.put(b" zero\n");
     }
-    put(text, kind, b" zero\n")
 }
 
-// Puts the lines of an accepted check with n alarms; how many bytes they take.
-pub(crate) fn put_accepted(text: &mut [u8], alarms: &[i32], n: usize) -> usize
-    requires { (n ≤ 2048) × (72000 ≤ length text.old) }
-    ensures { Put text.old 0 (accepted_text alarms.now n) text.new result }
+// Makes the text the lines of an accepted check with n alarms.
+#[tactic(auto, unfolding(crate::specs::Print::lines_of, crate::specs::Print::accepted_text))]
+pub(crate) fn put_accepted(text: &mut Text, alarms: &[i32], n: usize)
+    requires { n ≤ 2048 }
+    ensures { text.new ≡ accepted_text alarms.now n }
 {
-    let accepted = put(text, 0, b"accepted ");
-    let count = put_decimal(text, accepted, n as u64);
-    let mut at = put(text, count, b"\n");
-    let mut k = 0;
-    while k < n {
-        at = put_alarm(text, at, alarms, k);
-        k += 1;
+    text.set(b"accepted ");
+    text.put_decimal(n as u64);
+    text.put(b"\n");
+    for k in 0..n {
+        put_alarm(text, alarms, k);
     }
-    at
 }
 
-// Puts the line of a refusal; how many bytes it takes.
-pub(crate) fn put_refused(text: &mut [u8], rule: u32, place: usize) -> usize
-    requires { 72000 ≤ length text.old }
-    ensures { Put text.old 0 (refused_text rule place) text.new result }
+// Makes the text the line of a refusal.
+#[tactic(auto, unfolding(crate::specs::Print::refused_text))]
+pub(crate) fn put_refused(text: &mut Text, refusal: Refusal)
+    ensures { text.new ≡ refused_text refusal.rule refusal.place }
 {
-    let refused = put(text, 0, b"refused ");
-    let number = put_decimal(text, refused, rule as u64);
-    let space = put(text, number, b" ");
-    let word = put_word(text, space, rule);
-    let at = put(text, word, b" at ");
-    let end = put_decimal(text, at, place as u64);
-    put(text, end, b"\n")
+    text.set(b"refused ");
+    text.put_decimal(u64::from(refusal.rule.number()));
+    text.put(b" ");
+    text.put(word_of(refusal.rule));
+    text.put(b" at ");
+    text.put_decimal(refusal.place as u64);
+    text.put(b"\n");
 }

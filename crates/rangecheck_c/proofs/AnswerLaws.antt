@@ -1,65 +1,60 @@
--- What a run answers and leaves in its slice, from what `run` gave, and what a proposer answers: at each `return`.
+-- What a run answers and leaves in its slice, from what `run` gave: the answer `laid_of` has the numbers of the run's stage, and its slice is the run's.
 -- Assumes nothing.
-use Prim.Native.Nat.{ℕ, ◌<◌, ◌≤◌}
-use mathlib.Core.Path.{◌≡◌, refl, sym, ap, ◌∙◌}
-use mathlib.Core.List.{List, ◌++◌}
-use borrow.Author.Tests.{le-leb, lt-leb}
+use Prim.Native.Nat.{ℕ}
+use mathlib.Core.Path.{◌≡◌, refl, ap, ◌∙◌}
+use mathlib.Core.List.{List}
 use lib.IntN.{ℤ}
-use lib.ListN.{length, drop}
-use Rattle.words.specs.declared.Stage.TheVariants.{Passed, Broken}
-use Rattle.words.specs.First.{unless}
-use Rattle.words.specs.Stages.{refuse, and_then, numbers_by, stage_numbers, buffer_by}
-use Rattle.words.proofs.FillLaws.{length-tabulate}
+use lib.ListN.{length}
+use Rattle.std.specs.Prelude.{Ok, Err}
+use Rattle.words.specs.declared.refusal.Rule.{Rule}
+use Rattle.words.specs.Stages.{Stage, passed, broken, and_then, stage_of, numbers_by, stage_numbers, buffer_by}
+use Rattle.words.proofs.StageLaws.{and_then-first}
 use Rattle.table.specs.Validate.{validate_of}
-use Rattle.run.specs.declared.Played.{Played}
+use Rattle.checker.specs.Check.{verdict_by, verdict_numbers}
 use Rattle.run.specs.Run.{last_of, run_of}
 use Rattle.run.proofs.RunLaws.{run-stage, run-last}
-use Rattle.proposer.specs.declared.Proposed.{Proposed}
 use Rattle.rangecheck_c.specs.declared.RangecheckAnswer.{RangecheckAnswer}
-use Rattle.rangecheck_c.specs.declared.RangecheckProposed.{RangecheckProposed}
-use Rattle.rangecheck_c.specs.Answer.{answer_of, ran_stage, proposed_by}
-use Rattle.rangecheck_c.specs.Slots.{slot_of, slots_of, slice_of}
+use Rattle.rangecheck_c.specs.Answer.{answer_of, short_stage, ran_stage}
+use Rattle.rangecheck_c.specs.Slots.{slots_of, slots_by, laid_of, slice_of}
 
-module _ (t ws d : List ℤ) {p : Played} (is : p ≡ run_of t ws) where
-  validated : p.stage ≡ validate_of t
-  validated = ap (λ (q : Played). q.stage) is ∙ run-stage t ws
+-- ---- an answer without a count is its stage
+counted-stage : (s : Stage) → stage_of (verdict_by s 0) ≡ s
+unfolding verdict_by stage_of
+counted-stage (Ok tt) = refl
+counted-stage (Err e) = refl
 
-  -- ---- the answer r, and the slice after it
-  abbrev pub Ran : RangecheckAnswer → List ℤ → Type 0
-  Ran r out = (r ≡ answer_of (stage_numbers (ran_stage t (length d)))) × (out ≡ slice_of t ws d)
+counted-numbers : (s : Stage) → verdict_numbers (verdict_by s 0) ≡ stage_numbers s
+unfolding verdict_by verdict_numbers numbers_by
+counted-numbers (Ok tt) = refl
+counted-numbers (Err e) = refl
+
+-- the words count only where the stage passed
+same-words : (s : Stage) (d : List ℤ) {ws vs : List ℤ} → (s ≡ passed → ws ≡ vs) → buffer_by s ws d ≡ buffer_by s vs d
+unfolding buffer_by
+same-words (Ok tt) d h = rw (h refl)
+same-words (Err e) d h = refl
+
+module _ (t ws : List ℤ) where
+  ran : (room : ℕ) → and_then (stage_of (run_of t ws)) (short_stage room) ≡ ran_stage t room
+  unfolding ran_stage
+  ran room = rw (run-stage t ws)
+
+  pub laid_numbers : (room : ℕ) → verdict_numbers (laid_of (run_of t ws) room) ≡ stage_numbers (ran_stage t room)
+  unfolding laid_of
+  laid_numbers room = counted-numbers _ ∙ ap stage_numbers (ran room)
+
+  last-words : (room : ℕ) → ran_stage t room ≡ passed → slots_by (run_of t ws) ≡ slots_of (last_of t ws)
+  unfolding ran_stage
+  last-words room e = ap slots_of (run-last t ws (and_then-first (validate_of t) (short_stage room) e))
+
+  pub laid_slice : (d : List ℤ) → buffer_by (stage_of (laid_of (run_of t ws) (length d))) (slots_by (run_of t ws)) d ≡ slice_of t ws d
+  unfolding laid_of slice_of
+  laid_slice d = rw (counted-stage (and_then (stage_of (run_of t ws)) (short_stage (length d))), ran (length d)) (same-words _ d (last-words (length d)))
 
   -- a refusal leaves the slice as it came
-  refused : {r : RangecheckAnswer} {rule place : ℕ} → ran_stage t (length d) ≡ Broken rule place
-      → r ≡ answer_of (stage_numbers (Broken rule place)) → Ran r d
+  pub refused : (d : List ℤ) {r : RangecheckAnswer} {rule : Rule} {place : ℕ} → ran_stage t (length d) ≡ broken rule place
+      → r ≡ answer_of (stage_numbers (broken rule place)) → (r ≡ answer_of (stage_numbers (ran_stage t (length d)))) × (d ≡ slice_of t ws d)
   unfolding slice_of buffer_by
-  refused e h = rw e (h, refl)
+  refused d e h = rw e (h, refl)
 
-  pub broken : {r : RangecheckAnswer} {rule place : ℕ} → p.stage ≡ Broken rule place → r ≡ answer_of (stage_numbers (Broken rule place)) → Ran r d
-  unfolding ran_stage and_then
-  broken e h = refused (rw (sym validated ∙ e)) h
-
-  pub short : {r : RangecheckAnswer} → p.stage ≡ Passed → length d < 48 → r ≡ answer_of (stage_numbers (Broken 31 48)) → Ran r d
-  unfolding ran_stage and_then refuse unless
-  short e l h = refused (rw (sym validated ∙ e, lt-leb 48 (length d) l)) h
-
-  room-passed : validate_of t ≡ Passed → 48 ≤ length d → ran_stage t (length d) ≡ Passed
-  unfolding ran_stage and_then refuse unless
-  room-passed v l = rw (v, le-leb 48 (length d) l)
-
-  pub laid : {r : RangecheckAnswer} {out : List ℤ} → p.stage ≡ Passed → 48 ≤ length d → r ≡ answer_of (stage_numbers Passed)
-      → out ≡ slots_of p.state ++ drop 48 d → Ran r out
-  unfolding slice_of buffer_by slots_of
-  laid e l h q =
-      let ok = sym validated ∙ e in
-      rw (room-passed ok l) (h, q ∙ rw (is, run-last t ws ok, length-tabulate (slot_of (last_of t ws)) 48))
-
--- ---- what a proposer answers
-pub proposal-told : {p q : Proposed} {r : RangecheckProposed} → p ≡ q → p.stage ≡ Passed
-    → r ≡ record { number = 0; place = 0; words = p.words; passes = p.passes } → r ≡ proposed_by q
-unfolding numbers_by
-proposal-told is e h = rw (← is, e) h
-
-pub refusal-told : {p q : Proposed} {r : RangecheckProposed} {rule place : ℕ} → p ≡ q → p.stage ≡ Broken rule place
-    → r ≡ record { number = rule; place = place; words = p.words; passes = p.passes } → r ≡ proposed_by q
-unfolding numbers_by
-refusal-told is e h = rw (← is, e) h
+pub ruleset laid = (laid_numbers, laid_slice)

@@ -13,18 +13,15 @@ use lib.Dec.{eqb, ltb}
 use lib.IntN.{ℤ}
 use Rattle.words.specs.First.{first_bad}
 use Rattle.words.specs.Laws.{Smallest}
-use Rattle.words.specs.declared.Found.{Found}
-use Rattle.words.specs.declared.Found.TheVariants.{Nothing, At}
 use Rattle.words.proofs.Bools.{clash, and_left, and_right, or_left, or_right}
 use Rattle.words.proofs.FirstLaws.{first_bad-none, first_bad-smallest}
-use Rattle.interval.specs.Interval.{from_to}
-use Rattle.interval.specs.Lattice.{within_of}
+use Rattle.interval.specs.Interval.{span}
 use Rattle.interval.specs.declared.Interval.{Interval}
-use Rattle.interval.specs.declared.Interval.TheVariants.{Between}
-use Rattle.rules.specs.Proposal.{entries_of, head_of, entry_low, entry_high}
+use Rattle.rules.specs.Proposal.{entries_of, head_of}
 use Rattle.rules.specs.Rules.{above, before_of, rule10, files, filed}
 use Rattle.rules.proofs.SomeLaws.{only-some_below, none-some_below}
 use Rattle.rules.proofs.HalvingLaws.{Falls}
+use Rattle.std.specs.Prelude.{Option, None, Some}
 
 -- ---- `above`
 above-told : (a b : ℕ) (next : Bool) → above a b next ≡ true → (a < b) ⊎ ((a ≡ b) × (next ≡ true))
@@ -57,12 +54,12 @@ module _ (t w : List ℤ) where
       let l = ltb-true (head_of t w i 2) (head_of t w j 2) e in let m = ltb-true (head_of t w j 2) v q in lt-ltb (head_of t w i 2) v (omega arith)))
 
   -- ---- an entry files what is written only where it has its head
-  pub record Headed (i u s v : ℕ) : Type 0 where
+  record Headed (i u s v : ℕ) : Type 0 where
     pub task : head_of t w i 0 ≡ u
     pub set : head_of t w i 1 ≡ s
     pub variable : head_of t w i 2 ≡ v
 
-  module _ (u s v : ℕ) (x : Interval) (i : ℕ) where
+  module _ (u s v : ℕ) (x : Option Interval) (i : ℕ) where
     files-headed : files t w u s v x i ≡ true → Headed i u s v
     unfolding files
     files-headed e =
@@ -73,16 +70,12 @@ module _ (t w : List ℤ) where
           variable = eqb-true (head_of t w i 2) v (and_left _ _ (and_right (eqb (head_of t w i 1) s) _ later));
         }
 
-    pub not-headed : (Headed i u s v → ⊥) → files t w u s v x i ≡ false
+    not-headed : (Headed i u s v → ⊥) → files t w u s v x i ≡ false
     not-headed none = by (files t w u s v x i) refl
       where
         by : (b : Bool) → files t w u s v x i ≡ b → b ≡ false
         by true e = absurd (none (files-headed e))
         by false e = refl
-
-    pub headed-files : {b : Bool} → Headed i u s v → b ≡ within_of x (from_to (entry_low t w i) (entry_high t w i)) → b ≡ files t w u s v x i
-    unfolding files
-    headed-files h q = rw (eq-eqb _ _ h.task, eq-eqb _ _ h.set, eq-eqb _ _ h.variable) q
 
   -- a head isn't before itself
   headed-not-before : (u s v i : ℕ) → Headed i u s v → before_of t w i u s v ≡ false
@@ -102,15 +95,15 @@ module _ (t w : List ℤ) (order : (i : ℕ) → i < entries_of w → rule10 t w
   before_falls u s v i j l h e = before-trans t w i j u s v (heads-rise i j l h) e
 
   -- ---- the first entry whose head isn't before (u, s, v), by what a search for it gave
-  module _ (u s v : ℕ) {found : Found} (is : found ≡ first_bad (λ i. before_of t w i u s v) (entries_of w)) where
-    smallest : (i : ℕ) → found ≡ At i → Smallest (λ i. before_of t w i u s v) (entries_of w) i
+  module _ (u s v : ℕ) {found : Option ℕ} (is : found ≡ first_bad (λ i. before_of t w i u s v) (entries_of w)) where
+    smallest : (i : ℕ) → found ≡ Some i → Smallest (λ i. before_of t w i u s v) (entries_of w) i
     smallest i e = first_bad-smallest _ (entries_of w) i (sym is ∙ e)
 
-    pub found_below : (i : ℕ) → found ≡ At i → i < entries_of w
+    pub found_below : (i : ℕ) → found ≡ Some i → i < entries_of w
     found_below i e = (smallest i e).below
 
     -- no other entry has the head (u, s, v)
-    headed-found : (i j : ℕ) → found ≡ At i → j < entries_of w → Headed t w j u s v → j ≡ i
+    headed-found : (i j : ℕ) → found ≡ Some i → j < entries_of w → Headed t w j u s v → j ≡ i
     headed-found i j e l h =
         le_antisymm
         (le_of_suc-le-suc (lt_of_not-le (λ after. clash (sym (rw (h.task, h.set, h.variable) at (heads-rise i j after l)) ∙ (smallest i e).fails))))
@@ -118,12 +111,12 @@ module _ (t w : List ℤ) (order : (i : ℕ) → i < entries_of w → rule10 t w
 
     -- so what is written, low..high, is filed by that entry or by none
     module _ (low high : ℤ) where
-      pub none-filed : found ≡ Nothing → false ≡ filed t w u s v (Between low high)
+      pub none-filed : found ≡ None → false ≡ filed t w u s v (span low high)
       unfolding filed
       none-filed e =
           none-some_below _ (entries_of w)
           (λ j l. not-headed t w u s v _ j (λ h. clash (sym (first_bad-none _ (entries_of w) (sym is ∙ e) j l) ∙ headed-not-before t w u s v j h)))
 
-      pub found-files : {b : Bool} (i : ℕ) → found ≡ At i → b ≡ files t w u s v (Between low high) i → b ≡ filed t w u s v (Between low high)
+      pub found-files : {b : Bool} (i : ℕ) → found ≡ Some i → b ≡ files t w u s v (span low high) i → b ≡ filed t w u s v (span low high)
       unfolding filed
       found-files i e q = q ∙ only-some_below _ (entries_of w) i (found_below i e) (λ j l f. headed-found i j e l (files-headed t w u s v _ j f))

@@ -1,21 +1,22 @@
 -- A search by halves, for the first place below n at which a test fails that holds up to some place and fails from there on. A loop that makes
--- it has the invariant `Halved f n low high` and the measure high - low:
---     halve         where the loop begins, with low 0 and high n
+-- it has the invariant `Halved f n low high` and the measure high - low, begins with low 0 and high n, and goes on by:
 --     halve-up      the test holds at m: low goes to m + 1
 --     halve-down    the test fails at m: high goes to m
---     halved-at     low has come to high, below n: there is the place
---     halved_none   low has come to n: there is none
--- The code's m is the place in the middle, which is below high (`middle-below`).
+--     halved        low has come to high: there is the place, where it is below n
+-- The code's m is the place in the middle, which is below high.
 -- Assumes nothing.
-use Prim.Native.Nat.{ℕ, ◌+◌, ◌-◌, ◌/◌, ◌<◌, ◌≤◌, zero-le}
+use Prim.Native.Nat.{ℕ, ◌+◌, ◌<◌, ◌≤◌}
 use mathlib.Core.Path.{◌≡◌, refl, sym, ◌∙◌}
 use mathlib.Core.Bool.{Bool, true, false}
 use mathlib.Core.Logic.{⊎_elim}
-use native.Mathlib.Nat.{not-suc-le-zero, eq-or-lt_of_le}
+use native.Mathlib.Nat.{eq-or-lt_of_le}
 use native.Mathlib.Omega.{arith}
+use borrow.Author.Tests.{ltb-true, ltb-false}
+use lib.Dec.{ltb}
 use Rattle.words.specs.First.{first_bad}
-use Rattle.words.specs.declared.Found.TheVariants.{Nothing, At}
 use Rattle.words.proofs.FirstLaws.{none-first_bad, smallest-first_bad}
+use Rattle.std.specs.Prelude.{Option}
+use Rattle.std.specs.Bool.{then_some}
 
 -- where the test holds, it holds at each place before
 abbrev pub Falls : (ℕ → Bool) → ℕ → Type 0
@@ -26,12 +27,6 @@ pub record Halved (f : ℕ → Bool) (n low high : ℕ) : Type 0 where
   pub within : high ≤ n
   pub lower : (j : ℕ) → j < low → f j ≡ true
   pub upper : (j : ℕ) → high ≤ j → j < n → f j ≡ false
-
-pub halve : {f : ℕ → Bool} {n high : ℕ} → high ≡ n → Halved f n 0 high
-halve e = record { order = zero-le; within = omega arith; lower = λ j l. absurd (not-suc-le-zero l); upper = λ j l h. absurd (omega arith) }
-
-pub middle-below : (low high : ℕ) → low < high → low + (high - low) / 2 < high
-middle-below low high l = omega arith
 
 module _ {f : ℕ → Bool} {n low high : ℕ} (m : ℕ) (s : Halved f n low high) (falls : Falls f n) (l : m < high) where
   pub halve-up : f m ≡ true → Halved f n (m + 1) high
@@ -50,9 +45,13 @@ module _ {f : ℕ → Bool} {n low high : ℕ} (m : ℕ) (s : Halved f n low hig
       from j h k true q = ⊎_elim (λ (r : m ≡ j). sym q ∙ rw (sym r) e) (λ lt. sym (falls m j lt k q) ∙ e) (eq-or-lt_of_le h)
       from j h k false q = refl
 
-module _ {f : ℕ → Bool} {n low high : ℕ} (s : Halved f n low high) (met : high ≤ low) where
-  pub halved-at : low < n → At low ≡ first_bad f n
-  halved-at l = sym (smallest-first_bad f n low record { below = l; fails = s.upper low met l; earlier = s.lower })
-
-  pub halved_none : n ≤ low → Nothing ≡ first_bad f n
-  halved_none l = sym (none-first_bad f n (λ j h. s.lower j (omega arith)))
+-- k is n as the code has it
+pub halved : {f : ℕ → Bool} {n low high k : ℕ} {found : Option ℕ} → Halved f n low high → high ≤ low → k ≡ n → found ≡ then_some (ltb low k) low
+    → found ≡ first_bad f n
+halved {f} {n} {low} {high} {k} s met e is = is ∙ by (ltb low k) refl
+  where
+    by : (b : Bool) → ltb low k ≡ b → then_some b low ≡ first_bad f n
+    by true q =
+        let below = ltb-true low k q in
+        sym (smallest-first_bad f n low record { below = omega arith; fails = s.upper low met (omega arith); earlier = s.lower })
+    by false q = let past = ltb-false low k q in sym (none-first_bad f n (λ j h. s.lower j (omega arith)))

@@ -3,7 +3,6 @@ pub mod SetLaws
 pub mod ProposalLaws
 pub mod RowLaws
 pub mod OrderedLaws
-pub mod PlaceLaws
 pub mod RangeLaws
 pub mod PartsLaws
 pub mod SomeLaws
@@ -15,3 +14,4 @@ pub mod RestLaws
 pub mod PointLaws
 pub mod PointsLaws
 pub mod ReadyLaws
+pub mod CheckedLaws

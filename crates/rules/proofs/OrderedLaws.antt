@@ -9,53 +9,53 @@ use lib.IntN.{ℤ, pos}
 use lib.ListN.{length, drop, replicate, length-replicate}
 use lib.Signed.{le_z, ≤ℤ_refl}
 use Rattle.words.specs.Words.{word_of}
-use Rattle.interval.specs.Integer.{min_z, max_z}
-use Rattle.interval.specs.Interval.{least, greatest, on_ends, from_to, taken_of}
+use Rattle.interval.specs.Interval.{least, greatest, on_ends, from_to, taken_of, span}
 use Rattle.interval.specs.Lattice.{meet_of, join_of}
 use Rattle.interval.specs.Arithmetic.{computed_of, nothing_of, negate_of, operate_of}
 use Rattle.interval.specs.Narrow.{cuts_of}
 use Rattle.interval.specs.declared.Comparison.{Comparison}
 use Rattle.interval.specs.declared.Cuts.{Cuts}
 use Rattle.interval.specs.declared.Interval.{Interval}
-use Rattle.interval.specs.declared.Interval.TheVariants.{None, Between}
 use Rattle.interval.specs.declared.Operation.{Operation}
 use Rattle.interval.specs.declared.Uncut.{Uncut}
-use Rattle.interval.specs.declared.Uncut.TheVariants.{NoPair, Pair}
 use Rattle.interval.proofs.IntegerLaws.{le_z-cases, le_z-yes', le-true, ≤_trans, min-left, max-left}
 use Rattle.interval.proofs.IntervalLaws.{on_ends-cases, on_both-cases, taken-ordered}
 use Rattle.interval.proofs.LatticeLaws as lattice
 use Rattle.interval.proofs.NarrowLaws.{cuts-met}
 use Rattle.table.specs.Tree.{Arith, constant, input, variable, negation, binary, choice, no_arith, Cond, compare, both, either, is_not, no_cond}
-use Rattle.analysis.specs.Rows.{Row, range_of, own_of, Maybe, none, some, then_row, put_of, meet_at_of, each, join_rows_of}
+use Rattle.analysis.specs.declared.Row.{Row}
+use Rattle.analysis.specs.Rows.{range_of, own_of, then_row, put_of, meet_at_of, each, join_rows_of}
 use Rattle.analysis.specs.Analysis.{carry_of, carry_both_of, value_of, narrow_of}
 use Rattle.analysis.specs.Arrays.{left_of}
 use Rattle.analysis.specs.Cuts.{met_if}
 use Rattle.analysis.proofs.RowLaws.{joined, joined-low-is, joined-high-is, slots-within}
 use Rattle.rules.specs.Ready.{Ordered}
 use Rattle.rules.proofs.RowLaws.{slots_length, written-ordered}
+use Rattle.std.specs.Int.{int_min, int_max}
+use Rattle.std.specs.Prelude.{None, Option, Some}
 
 -- ---- intervals
 from-ordered : (a b : ℤ) → lattice.Ordered (from_to a b)
-from-ordered a b = le_z-cases lattice.Ordered a b (Between a b) None (λ h. h) (λ h. tt)
+from-ordered a b = le_z-cases lattice.Ordered a b (span a b) None (λ h. h) (λ h. tt)
 
-computed-ordered : (u : Uncut) (z : Bool) → lattice.Ordered (computed_of u z).range
+computed-ordered : (u : Option Uncut) (z : Bool) → lattice.Ordered (computed_of u z).range
 unfolding computed_of
-computed-ordered NoPair z = tt
-computed-ordered (Pair lo hi) z = from-ordered (max_z lo least) (min_z hi greatest)
+computed-ordered None z = tt
+computed-ordered (Some u) z = from-ordered (int_max u.low least) (int_min u.high greatest)
 
-negate-ordered : (r : Interval) → lattice.Ordered (negate_of r).range
+negate-ordered : (r : Option Interval) → lattice.Ordered (negate_of r).range
 unfolding negate_of
 negate-ordered r = on_ends-cases (λ c. lattice.Ordered c.range) nothing_of _ r tt (λ a b _ _. computed-ordered _ _)
 
-operate-ordered : (op : Operation) (r s : Interval) → lattice.Ordered (operate_of op r s).range
+operate-ordered : (op : Operation) (r s : Option Interval) → lattice.Ordered (operate_of op r s).range
 unfolding operate_of
 operate-ordered op r s = on_both-cases (λ c. lattice.Ordered c.range) nothing_of _ r s tt (λ a b c d _ _ _ _. computed-ordered _ _)
 
-join-ordered : (r s : Interval) → lattice.Ordered (join_of r s)
+join-ordered : (r s : Option Interval) → lattice.Ordered (join_of r s)
 unfolding join_of
 join-ordered r s =
-    on_ends-cases lattice.Ordered (taken_of s) _ r (on_ends-cases lattice.Ordered None Between s tt (λ c d k _. k))
-    (λ a b h _. on_ends-cases lattice.Ordered (Between a b) _ s h (λ c d k _. ≤_trans (min-left a c) (≤_trans h (max-left b d))))
+    on_ends-cases lattice.Ordered (taken_of s) _ r (on_ends-cases lattice.Ordered None span s tt (λ c d k _. k))
+    (λ a b h _. on_ends-cases lattice.Ordered (span a b) _ s h (λ c d k _. ≤_trans (min-left a c) (≤_trans h (max-left b d))))
 
 value-in-order : (x : Arith) (r : Row) → lattice.Ordered (value_of x r)
 unfolding value_of
@@ -68,32 +68,32 @@ value-in-order (choice n c x y) r = join-ordered _ _
 value-in-order (no_arith n) r = ≤ℤ_refl (pos 0)
 
 -- the ends that were read of one
-ends-ordered : {x : Interval} {a b : ℤ} → lattice.Ordered x → x ≡ Between a b → le_z a b ≡ true
-ends-ordered o e = le-true (rw e at o)
+ends-ordered : {x : Option Interval} {e : Interval} → lattice.Ordered x → x ≡ Some e → le_z e.low e.high ≡ true
+ends-ordered o q = le-true (rw q at o)
 
-pub value-ordered : (x : Arith) (r : Row) {i : Interval} {a b : ℤ} → i ≡ value_of x r → i ≡ Between a b → le_z a b ≡ true
-value-ordered x r e f = ends-ordered (value-in-order x r) (sym e ∙ f)
+pub value-ordered : (x : Arith) (r : Row) {i : Option Interval} {e : Interval} → i ≡ value_of x r → i ≡ Some e → le_z e.low e.high ≡ true
+value-ordered x r f q = ends-ordered (value-in-order x r) (sym f ∙ q)
 
 -- ---- cuts
-in-order-taken : (x : Interval) → lattice.Ordered x → taken_of x ≡ x
+in-order-taken : (x : Option Interval) → lattice.Ordered x → taken_of x ≡ x
 unfolding on_ends
 in-order-taken None o = refl
-in-order-taken (Between a b) o = rw (le-true o)
+in-order-taken (Some e) o = rw (le-true o)
 
-pub cuts-taken : (k : Comparison) (w : Bool) (r s : Interval) {u : Cuts} → u ≡ cuts_of k w r s → (taken_of u.left ≡ u.left) × (taken_of u.right ≡ u.right)
+pub cuts-taken : (k : Comparison) (w : Bool) (r s : Option Interval) {u : Cuts} → u ≡ cuts_of k w r s → (taken_of u.left ≡ u.left) × (taken_of u.right ≡ u.right)
 cuts-taken k w r s e =
     let met = cuts-met k w r s in
     rw e
     (in-order-taken _ (subst lattice.Ordered met.0 (lattice.meet-ordered r _)), in-order-taken _ (subst lattice.Ordered met.1 (lattice.meet-ordered s _)))
 
-pub taken-in-order : (x : Interval) {a b : ℤ} → taken_of x ≡ x → x ≡ Between a b → le_z a b ≡ true
-taken-in-order x {a} {b} t e = le-true (taken-ordered x a b (t ∙ e))
+pub taken-in-order : (x : Option Interval) {e : Interval} → taken_of x ≡ x → x ≡ Some e → le_z e.low e.high ≡ true
+taken-in-order x {e} t q = le-true (taken-ordered x e.low e.high (t ∙ q))
 
 -- the second, which is met with the first where both are of one variable
-pub last-ordered : (same : Bool) (l r : Interval) {x : Interval} {a b : ℤ} → taken_of r ≡ r → x ≡ met_if same l r → x ≡ Between a b → le_z a b ≡ true
+pub last-ordered : (same : Bool) (l r : Option Interval) {x : Option Interval} {e : Interval} → taken_of r ≡ r → x ≡ met_if same l r → x ≡ Some e → le_z e.low e.high ≡ true
 unfolding met_if
-last-ordered true l r t e f = ends-ordered (lattice.meet-ordered l r) (sym e ∙ f)
-last-ordered false l r t e f = taken-in-order r t (sym e ∙ f)
+last-ordered true l r t f q = ends-ordered (lattice.meet-ordered l r) (sym f ∙ q)
+last-ordered false l r t f q = taken-in-order r t (sym f ∙ q)
 
 -- ---- rows of n variables, through narrowing
 each_long : (f : ℤ → ℤ → ℤ) (l m : List ℤ) → length l ≤ length (each f l m)
@@ -105,47 +105,47 @@ module _ (n : ℕ) where
   abbrev Neat : Row → Type 0
   Neat r = Ordered r.lows r.highs n
 
-  abbrev Left : Maybe → Type 0
-  Left none = Unit {0}
-  Left (some r) = Neat r
+  abbrev Left : Option Row → Type 0
+  Left None = Unit {0}
+  Left (Some r) = Neat r
 
   joined-neat : (r s : Row) → Neat r → Neat s → Neat (joined r s)
   joined-neat r s o p = record {
-    low = omega (arith, o.low, each_long min_z r.lows s.lows);
-    high = omega (arith, o.high, each_long max_z r.highs s.highs);
+    low = omega (arith, o.low, each_long int_min r.lows s.lows);
+    high = omega (arith, o.high, each_long int_max r.highs s.highs);
     ends = λ v l. rw (joined-low-is r s v, joined-high-is r s v)
         (le-true (≤_trans (min-left _ _) (≤_trans (le_z-yes' (word_of r.lows v) (word_of r.highs v) (o.ends v l)) (max-left _ _))));
   }
 
-  meet_at-neat : (r : Row) (v : ℕ) (i : Interval) → Neat r → Left (meet_at_of r v i)
+  meet_at-neat : (r : Row) (v : ℕ) (i : Option Interval) → Neat r → Left (meet_at_of r v i)
   unfolding meet_at_of put_of
   meet_at-neat r v i o = by (meet_of (range_of r v) i) (lattice.meet-ordered (range_of r v) i)
     where
-      by : (m : Interval) → lattice.Ordered m → Left (put_of r v m)
+      by : (m : Option Interval) → lattice.Ordered m → Left (put_of r v m)
       by None p = tt
-      by (Between a b) p = written-ordered v a b o (le-true p)
+      by (Some e) p = written-ordered v e.low e.high o (le-true p)
 
-  carry-neat : (x : Arith) (i : Interval) (r : Row) → Neat r → Left (carry_of x i r)
+  carry-neat : (x : Arith) (i : Option Interval) (r : Row) → Neat r → Left (carry_of x i r)
   unfolding carry_of
   carry-neat x None r o = tt
-  carry-neat (constant k z) (Between a b) r o = o
-  carry-neat (input k l h) (Between a b) r o = o
-  carry-neat (variable k v) (Between a b) r o = meet_at-neat r v (Between a b) o
-  carry-neat (negation k x) (Between a b) r o = o
-  carry-neat (binary k op x y) (Between a b) r o = o
-  carry-neat (choice k c x y) (Between a b) r o = o
-  carry-neat (no_arith k) (Between a b) r o = o
+  carry-neat (constant k z) (Some e) r o = o
+  carry-neat (input k l h) (Some e) r o = o
+  carry-neat (variable k v) (Some e) r o = meet_at-neat r v (span e.low e.high) o
+  carry-neat (negation k x) (Some e) r o = o
+  carry-neat (binary k op x y) (Some e) r o = o
+  carry-neat (choice k c x y) (Some e) r o = o
+  carry-neat (no_arith k) (Some e) r o = o
 
-  then-neat : (m : Maybe) (f : Row → Maybe) → Left m → ((r : Row) → Neat r → Left (f r)) → Left (then_row m f)
+  then-neat : (m : Option Row) (f : Row → Option Row) → Left m → ((r : Row) → Neat r → Left (f r)) → Left (then_row m f)
   unfolding then_row
-  then-neat none f o g = tt
-  then-neat (some r) f o g = g r o
+  then-neat None f o g = tt
+  then-neat (Some r) f o g = g r o
 
-  join_rows-neat : (m k : Maybe) → Left m → Left k → Left (join_rows_of m k)
+  join_rows-neat : (m k : Option Row) → Left m → Left k → Left (join_rows_of m k)
   unfolding join_rows_of
-  join_rows-neat none k o p = p
-  join_rows-neat (some r) none o p = o
-  join_rows-neat (some r) (some s) o p = joined-neat r s o p
+  join_rows-neat None k o p = p
+  join_rows-neat (Some r) None o p = o
+  join_rows-neat (Some r) (Some s) o p = joined-neat r s o p
 
   narrow-neat : (c : Cond) (w : Bool) (r : Row) → Neat r → Left (narrow_of c w r)
   unfolding narrow_of carry_both_of
@@ -160,10 +160,10 @@ module _ (n : ℕ) where
   narrow-neat (no_cond k) false r o = o
 
   module _ (few : n ≤ 16) where
-    left-neat : (m : Maybe) → Left m → Neat (left_of m)
+    left-neat : (m : Option Row) → Left m → Neat (left_of m)
     unfolding left_of
-    left-neat none o = record { low = simp length-replicate few; high = simp length-replicate few; ends = λ v l. le-true (≤ℤ_refl (word_of (replicate 16 (pos 0)) v)) }
-    left-neat (some r) o = o
+    left-neat None o = record { low = simp length-replicate few; high = simp length-replicate few; ends = λ v l. le-true (≤ℤ_refl (word_of (replicate 16 (pos 0)) v)) }
+    left-neat (Some r) o = o
 
     own-neat : (r : Row) → Neat r → Neat (own_of r)
     own-neat r o = record {

@@ -1,7 +1,7 @@
 -- What refusals 7 and 9 leave of a proposal: its parts are whole, its heads are in range, its ends in order, so that an entry can be read where it lies.
 -- Assumes nothing.
 use Prim.Native.Nat.{ℕ, ◌+◌, ◌*◌, ◌<◌, ◌≤◌}
-use mathlib.Core.Path.{◌≡◌, refl, sym, ◌∙◌}
+use mathlib.Core.Path.{◌≡◌, refl, sym, subst, ◌∙◌}
 use mathlib.Core.Bool.{true}
 use mathlib.Core.List.{List}
 use native.Mathlib.Nat.{mul-le-mul_right, suc-mul}
@@ -13,10 +13,13 @@ use lib.Signed.{le_z}
 use Rattle.words.specs.Words.{word_of}
 use Rattle.words.proofs.PartLaws.{part-word, part_length}
 use Rattle.table.specs.Layout.{sizes_of}
+use Rattle.analysis.specs.declared.Ends.{Ends}
+use Rattle.analysis.specs.declared.Row.{Row}
+use Rattle.analysis.specs.Rows.{seen}
 use Rattle.rules.specs.Proposal.{rows_of, entries_of, intervals_of, heads_from, lows_from, proposal_length, heads_of, head_of, lows_of, highs_of, row_at, entries_at}
 use Rattle.rules.specs.Rules.{head_in_range}
-use Rattle.rules.specs.Ready.{Bounded, Apart, Ordered, Whole, Readable, Listed, Ready}
-use Rattle.rules.proofs.ProposalLaws.{limits, intervals-bound}
+use Rattle.rules.specs.Ready.{Bounded, Ordered, Whole, Ready}
+use Rattle.rules.proofs.ProposalLaws.{intervals-bound}
 use Rattle.rules.proofs.RangeLaws.{head-word, end_is}
 
 module _ {t w : List ℤ} (b : Bounded t w) where
@@ -51,20 +54,20 @@ module _ {t w : List ℤ} (b : Bounded t w) where
   unfolding row_at
   row-highs-length k l = part_length (highs_of t w) (k * (sizes_of t).variables) (sizes_of t).variables (rw highs-length (row_room k l))
 
-module _ {t w : List ℤ} (r : Ready t w) where
-  -- ---- how long the parts are
+  -- ---- how long the entries' parts are
   pub heads-length : length (heads_of t w) ≡ 3 * entries_of w
   unfolding heads_of proposal_length lows_from
-  heads-length = part_length w (heads_from t) (3 * entries_of w) (rw r.bounded.whole (omega arith))
+  heads-length = part_length w (heads_from t) (3 * entries_of w) (rw b.whole (omega arith))
 
-  entry-lows-length : length (entries_at t w).lows ≡ entries_of w
+  pub entry-lows-length : length (entries_at t w).lows ≡ entries_of w
   unfolding entries_at intervals_of
-  entry-lows-length = part_length (lows_of t w) (rows_of t * (sizes_of t).variables) (entries_of w) (rw (lows-length r.bounded) (omega arith))
+  entry-lows-length = part_length (lows_of t w) (rows_of t * (sizes_of t).variables) (entries_of w) (rw lows-length (omega arith))
 
-  entry-highs-length : length (entries_at t w).highs ≡ entries_of w
+  pub entry-highs-length : length (entries_at t w).highs ≡ entries_of w
   unfolding entries_at intervals_of
-  entry-highs-length = part_length (highs_of t w) (rows_of t * (sizes_of t).variables) (entries_of w) (rw (highs-length r.bounded) (omega arith))
+  entry-highs-length = part_length (highs_of t w) (rows_of t * (sizes_of t).variables) (entries_of w) (rw highs-length (omega arith))
 
+module _ {t w : List ℤ} (r : Ready t w) where
   -- the ends of v in row k, straight from all low and all high ends: `at` is the number of the interval
   module _ (k v : ℕ) (l : v < (sizes_of t).variables) where
     module _ {at : ℕ} (e : at ≡ k * (sizes_of t).variables + v) (h : k < rows_of t) where
@@ -72,7 +75,7 @@ module _ {t w : List ℤ} (r : Ready t w) where
       inside = omega (arith, row_room r.bounded k h)
 
       pub at_bound : at < 4736
-      at_bound = omega (arith, inside, intervals-bound (limits r.bounded))
+      at_bound = omega (arith, inside, intervals-bound r.bounded)
 
       pub low-there : {low : List ℤ} → low ≡ lows_of t w → at < length low
       low-there f = rw (f, lows-length r.bounded) inside
@@ -92,7 +95,7 @@ module _ {t w : List ℤ} (r : Ready t w) where
   end-ordered : (i : ℕ) → i < intervals_of t w → le_z (word_of (lows_of t w) i) (word_of (highs_of t w) i) ≡ true
   end-ordered i l = sym (end_is t w i) ∙ r.range (lows_from t w + i) (omega arith)
 
-  -- so row k can be read, its ends in order: n is the number of variables as the code has it
+  -- so row k can be read, its ends in order
   row-in-order : (k : ℕ) → k < rows_of t → Ordered (row_at t w k).lows (row_at t w k).highs (sizes_of t).variables
   row-in-order k l = record {
     low = omega (arith, row-lows-length r.bounded k l);
@@ -100,17 +103,11 @@ module _ {t w : List ℤ} (r : Ready t w) where
     ends = λ v below. rw (row_low k v below, row-high k v below) (end-ordered _ (omega (arith, row_room r.bounded k l)));
   }
 
-  pub row-ordered : {lows highs : List ℤ} {n : ℕ} (k : ℕ) → k < rows_of t → n ≡ (sizes_of t).variables → lows ≡ (row_at t w k).lows → highs ≡ (row_at t w k).highs
-      → Ordered lows highs n
-  row-ordered k l e f g = rw (e, f, g) (row-in-order k l)
-
-  pub row-whole : {lows highs : List ℤ} (k : ℕ) → k < rows_of t → lows ≡ (row_at t w k).lows → highs ≡ (row_at t w k).highs → Whole t lows highs
-  row-whole k l e f = record {
-    variables = r.bounded.variables;
-    low = rw e (row-lows-length r.bounded k l);
-    high = rw f (row-highs-length r.bounded k l);
-    ordered = row-ordered k l refl e f;
-  }
+  -- as the code cuts it
+  pub row-whole : (e : Ends) (k : ℕ) → k < rows_of t → seen e ≡ row_at t w k → Whole t e.lows.now e.highs.now
+  row-whole e k l q =
+      subst (λ (x : Row). Whole t x.lows x.highs) (sym q)
+      (record { variables = r.bounded.variables; low = row-lows-length r.bounded k l; high = row-highs-length r.bounded k l; ordered = row-in-order k l })
 
   -- ---- refusal 9 at the variable of an entry's head, and at its ends
   pub head-variable : (i : ℕ) → i < entries_of w → head_of t w i 2 < (sizes_of t).variables
@@ -119,35 +116,8 @@ module _ {t w : List ℤ} (r : Ready t w) where
       rw (part-word w (heads_from t) (3 * entries_of w) (3 * i + 2) (omega arith))
       (ltb-true _ _ (sym (head-word t w i 2 (omega arith)) ∙ r.range (heads_from t + (3 * i + 2)) (omega arith)))
 
-  entry-ordered : (i : ℕ) → i < entries_of w → le_z (word_of (entries_at t w).lows i) (word_of (entries_at t w).highs i) ≡ true
+  pub entry-ordered : (i : ℕ) → i < entries_of w → le_z (word_of (entries_at t w).lows i) (word_of (entries_at t w).highs i) ≡ true
   unfolding entries_at intervals_of
   entry-ordered i l =
       let rows = rows_of t * (sizes_of t).variables in
       rw (part-word (lows_of t w) rows (entries_of w) i l, part-word (highs_of t w) rows (entries_of w) i l) (end-ordered (rows + i) (omega arith))
-
-  -- ---- all entries
-  pub listed : {h from to : List ℤ} → Apart t w h from to → Listed h from to
-  unfolding head_of
-  listed a = record {
-    few = rw (a.lows, entry-lows-length) r.bounded.entries;
-    heads = rw (a.heads, a.lows, entry-lows-length) heads-length;
-    highs = rw (a.highs, a.lows, entry-lows-length) entry-highs-length;
-    variable = λ i l. rw a.heads (omega (arith, head-variable i (rw (a.lows, entry-lows-length) at l), r.bounded.variables));
-  }
-
-  -- ---- an entry against row k
-  pub readable : {h from to lows highs : List ℤ} (k i : ℕ) → Apart t w h from to → lows ≡ (row_at t w k).lows → highs ≡ (row_at t w k).highs
-      → k < rows_of t → i < entries_of w → Readable h from to lows highs i
-  unfolding head_of
-  readable k i a low high lk li =
-      let v = head-variable i li in
-      record {
-        index = omega (arith, r.bounded.entries);
-        head = rw (a.heads, heads-length) (omega arith);
-        low = rw (a.lows, entry-lows-length) li;
-        high = rw (a.highs, entry-highs-length) li;
-        variable = rw a.heads (omega (arith, r.bounded.variables));
-        row_low = rw (a.heads, low, row-lows-length r.bounded k lk) v;
-        row-high = rw (a.heads, high, row-highs-length r.bounded k lk) v;
-        ordered = rw (a.lows, a.highs) (entry-ordered i li);
-      }

@@ -1,9 +1,6 @@
--- The walk over the points of a range that settles rules 12, 13 and 14 and marks the alarms. Its loop has the invariant `Walked`, p the loop's
--- counter, and the measure to - p:
+-- The walk over the points of a range that settles rules 12, 13 and 14 and marks the alarms. Its loop has the invariant `Walked`, p the loop's counter:
 --     walk          where the loop begins
 --     walks         one point more: the invariant at p + 1
---     walked        p has come to the end: what is given after the loop
---     walk-length   at every turn there are as many marks as before
 -- Assumes nothing.
 use Prim.Native.Nat.{ℕ, zero, suc, ◌+◌, ◌<◌, ◌≤◌}
 use mathlib.Core.Path.{◌≡◌, refl, ap, subst, ◌∙◌}
@@ -15,7 +12,6 @@ use native.Mathlib.Omega.{arith}
 use borrow.Author.Tests.{lt-ltb, le-ltb}
 use lib.IntN.{ℤ}
 use lib.ListN.{length, set, length-set}
-use Rattle.words.specs.declared.Found.TheVariants.{Nothing}
 use Rattle.words.specs.First.{first_bad, or_else, unless}
 use Rattle.analysis.specs.declared.Alarm.{Alarm}
 use Rattle.analysis.specs.Alarms.{place_of, marked_of}
@@ -24,20 +20,21 @@ use Rattle.rules.specs.declared.Fits.{Fits}
 use Rattle.rules.specs.declared.Faults.{Faults}
 use Rattle.rules.specs.Rules.{rule12, rule13, rule14}
 use Rattle.rules.specs.Alarms.{alarms_if, alarms_at, alarms_in}
-use Rattle.rules.specs.Examine.{places, first_bad_in}
+use Rattle.words.specs.First.{places, first_bad_in}
 use Rattle.rules.specs.Points.{fits_at, fault_or, faults_of}
-use Rattle.rules.proofs.PlaceLaws.{seek, unfound}
+use Rattle.words.proofs.PlaceLaws.{seek, unfound}
+use Rattle.std.specs.Prelude.{None}
 
 -- ---- one place more, and none
 in-more : (f : ℕ → Bool) (from p : ℕ) → from ≤ p → first_bad_in f (places from (p + 1)) ≡ or_else (first_bad_in f (places from p)) (unless (f p) p)
 unfolding first_bad_in first_bad
 in-more f from p h = rw (add-one, le-ltb p from h)
 
-in-none : (f : ℕ → Bool) (from : ℕ) → Nothing ≡ first_bad_in f (places from from)
-in-none f from = unfound (seek {f = f} {from = from} (omega arith)) (omega arith)
+in-none : (f : ℕ → Bool) (from : ℕ) → None ≡ first_bad_in f (places from from)
+in-none f from = unfound (seek {f = f} {from = from}) (omega arith)
 
 module _ (t w : List ℤ) (from : ℕ) where
-  faults-none : record { locks = Nothing; flow = Nothing; write = Nothing } ≡ faults_of t w from from
+  faults-none : record { locks = None; flow = None; write = None } ≡ faults_of t w from from
   unfolding faults_of
   faults-none = rw (← in-none (rule12 t w) from, ← in-none (rule13 t w) from, ← in-none (rule14 t w) from)
 
@@ -56,39 +53,17 @@ module _ (t w : List ℤ) (from : ℕ) where
   unfolding alarms_in alarms_if
   marked_more m p h = rw (add-one, le-ltb p from h) (marked_append m _ _)
 
-marked-length : (l : List Alarm) (m : List ℕ) → length (marked_of m l) ≡ length m
-unfolding marked_of
-marked-length [] m = refl
-marked-length (a ∷ l) m = marked-length l (set m (place_of a.node a.kind) 1) ∙ simp length-set
+-- ---- the walk, as far as p: m are the marks before it
+pub record Walked (t w : List ℤ) (from p : ℕ) (m : List ℕ) (found : Faults) (marks : List ℕ) : Type 0 where
+  pub faults : found ≡ faults_of t w from p
+  pub marked : marks ≡ marked_of m (alarms_in t w from p)
 
--- ---- the walk: marks₀ are the marks before it
-pub record Walked (t w : List ℤ) (from to : ℕ) (marks₀ : List ℕ) (p : ℕ) (all : Faults) (marks : List ℕ) : Type 0 where
-  pub past : from ≤ p
-  pub within : p ≤ to
-  pub found : all ≡ faults_of t w from p
-  pub marked : marks ≡ marked_of marks₀ (alarms_in t w from p)
+module _ {t w : List ℤ} {from : ℕ} {m : List ℕ} where
+  pub walk : Walked t w from from m (record { locks = None; flow = None; write = None }) m
+  unfolding marked_of
+  walk = record { faults = faults-none t w from; marked = rw (alarms-before t w from from (omega arith)) }
 
-pub walk : {t w : List ℤ} {from to : ℕ} {m : List ℕ} → from ≤ to
-    → Walked t w from to m from (record { locks = Nothing; flow = Nothing; write = Nothing }) m
-unfolding marked_of
-walk {t} {w} {from} {to} {m} h =
-    record { past = omega arith; within = h; found = faults-none t w from; marked = rw (alarms-before t w from from (omega arith)) }
-
-pub walks :
-    {t w : List ℤ} {from to p : ℕ} {m₀ m m' : List ℕ} {all all' : Faults} {x : Fits} → Walked t w from to m₀ p all m → p < to → x ≡ fits_at t w p
-    → all' ≡ fault_or all x p → m' ≡ marked_of m (alarms_at t w p) → Walked t w from to m₀ (p + 1) all' m'
-walks {t} {w} {from} {to} {p} {m₀} s l e f g = record {
-  past = omega (arith, s.past);
-  within = omega arith;
-  found = f ∙ rw (s.found, e, faults-more t w from p s.past);
-  marked = g ∙ rw (s.marked, marked_more t w from m₀ p s.past);
-}
-
-pub walked :
-    {t w : List ℤ} {from to p : ℕ} {m₀ m : List ℕ} {all : Faults} → Walked t w from to m₀ p all m → to ≤ p
-    → (all ≡ faults_of t w from to) × (m ≡ marked_of m₀ (alarms_in t w from to))
-walked {t} {w} {from} {to} {p} {m₀} {m} {all} s l =
-    subst (λ (k : ℕ). (all ≡ faults_of t w from k) × (m ≡ marked_of m₀ (alarms_in t w from k))) (le_antisymm s.within l) (s.found, s.marked)
-
-pub walk-length : {t w : List ℤ} {from to p : ℕ} {m₀ m : List ℕ} {all : Faults} → Walked t w from to m₀ p all m → length m ≡ length m₀
-walk-length s = ap length s.marked ∙ marked-length _ _
+  pub walks :
+      {p : ℕ} {found found' : Faults} {marks marks' : List ℕ} {x : Fits} → Walked t w from p m found marks → from ≤ p → x ≡ fits_at t w p
+      → found' ≡ fault_or found x p → marks' ≡ marked_of marks (alarms_at t w p) → Walked t w from (p + 1) m found' marks'
+  walks {p} s l e f g = record { faults = f ∙ rw (s.faults, e, faults-more t w from p l); marked = g ∙ rw (s.marked, marked_more t w from m p l) }

@@ -14,18 +14,19 @@ use lib.Signed.{le_z, ◌<ℤ◌, ≤ℤ_refl}
 use Rattle.words.specs.Words.{word_of}
 use Rattle.words.specs.First.{all_below}
 use Rattle.words.proofs.Bools.{clash, and-true, and_left, and_right}
-use Rattle.words.proofs.FirstLaws.{Checked, fails-at, all_below-each}
+use Rattle.words.proofs.FirstLaws.{all_below-each, all_below-same}
 use Rattle.words.proofs.FillLaws.{length-tabulate}
-use Rattle.interval.specs.Integer.{min_z, max_z}
-use Rattle.interval.specs.Interval.{on_ends, from_to}
+use Rattle.interval.specs.Interval.{on_ends, from_to, span}
 use Rattle.interval.specs.Lattice.{is_none_of, within_of, meet_of}
-use Rattle.interval.specs.declared.Interval.TheVariants.{None, Between}
 use Rattle.interval.proofs.IntegerLaws.{le_z-cases, le_z-yes', le-true, le-false, ≤_trans, ≤-<-trans, <-≤-trans, min-left, min-right, max-left, max-right, min-above, max-below, min-is, max-is}
 use Rattle.interval.proofs.Machine.{same_truth}
-use Rattle.analysis.specs.Rows.{Row, row_of, range_of, slots_of, each}
+use Rattle.analysis.specs.declared.Row.{Row}
+use Rattle.analysis.specs.Rows.{row_of, range_of, slots_of, each}
 use Rattle.analysis.proofs.RowLaws.{each-is, slots-within}
 use Rattle.rules.specs.Outcomes.{row_within_of}
 use Rattle.rules.specs.Ready.{Ordered}
+use Rattle.std.specs.Int.{int_min, int_max}
+use Rattle.std.specs.Prelude.{None}
 
 -- ---- the test at a variable, and the loop over the variables
 -- the interval of v in r lies within that in s
@@ -44,13 +45,9 @@ ends-within a b c d e = rw (e, e) (by (le_z c d) refl)
         let high = le_z-yes' b d (and_right (le_z c a) (le_z b d) q) in
         clash (sym (le-true (≤_trans low (≤_trans (le_z-yes' a b e) high))) ∙ f)
 
-    by : (t : Bool) → le_z c d ≡ t → le_z c a && le_z b d ≡ on_ends false (λ c d. le_z c a && le_z b d) (cond t (Between c d) None)
+    by : (t : Bool) → le_z c d ≡ t → le_z c a && le_z b d ≡ on_ends false (λ c d. le_z c a && le_z b d) (cond t (span c d) None)
     by true f = rw f
     by false f = both (le_z c a && le_z b d) refl f
-
--- the loop is left where the test fails
-pub fails-in : {f : ℕ → Bool} {n k : ℕ} → Checked f n k → k < n → f k ≡ false → false ≡ all_below f n
-fails-in {f} {n} {k} s l q = sym (fails-at f n k l q)
 
 -- ---- met rows
 from_to-none : {lo hi : ℤ} → hi <ℤ lo → None ≡ from_to lo hi
@@ -61,22 +58,22 @@ abbrev pub Meets : Row → Row → ℕ → Bool
 Meets r s v = not (is_none_of (meet_of (range_of r v) (range_of s v)))
 
 module _ (a b c d : ℤ) where
-  meet-from_to : meet_of (from_to a b) (from_to c d) ≡ from_to (max_z a c) (min_z b d)
+  meet-from_to : meet_of (from_to a b) (from_to c d) ≡ from_to (int_max a c) (int_min b d)
   unfolding meet_of on_ends
   meet-from_to =
-      le_z-cases (λ x. meet_of x (from_to c d) ≡ from_to (max_z a c) (min_z b d)) a b (Between a b) None
+      le_z-cases (λ x. meet_of x (from_to c d) ≡ from_to (int_max a c) (int_min b d)) a b (span a b) None
       (λ h.
-      le_z-cases (λ y. meet_of (Between a b) y ≡ from_to (max_z a c) (min_z b d)) c d (Between c d) None
+      le_z-cases (λ y. meet_of (span a b) y ≡ from_to (int_max a c) (int_min b d)) c d (span c d) None
       (λ k. rw (le-true h, le-true k))
       (λ k. rw (le-true h) (from_to-none (≤-<-trans (min-right b d) (<-≤-trans k (max-right a c))))))
       (λ h. from_to-none (≤-<-trans (min-left b d) (<-≤-trans h (max-left a c))))
 
   -- what is met isn't none where its ends are in order
-  pub meet-some : not (is_none_of (meet_of (from_to a b) (from_to c d))) ≡ le_z (max_z a c) (min_z b d)
+  pub meet-some : not (is_none_of (meet_of (from_to a b) (from_to c d))) ≡ le_z (int_max a c) (int_min b d)
   unfolding on_ends
-  meet-some = rw meet-from_to (by (le_z (max_z a c) (min_z b d)) refl)
+  meet-some = rw meet-from_to (by (le_z (int_max a c) (int_min b d)) refl)
     where
-      by : (t : Bool) → le_z (max_z a c) (min_z b d) ≡ t → not (is_none_of (cond t (Between (max_z a c) (min_z b d)) None)) ≡ t
+      by : (t : Bool) → le_z (int_max a c) (int_min b d) ≡ t → not (is_none_of (cond t (span (int_max a c) (int_min b d)) None)) ≡ t
       by true e = rw e
       by false e = refl
 
@@ -84,38 +81,37 @@ module _ (a b c d : ℤ) where
   pub overlap-is : le_z a b ≡ true → le_z c d ≡ true → le_z a d && le_z c b ≡ not (is_none_of (meet_of (from_to a b) (from_to c d)))
   overlap-is e f = rw meet-some (same_truth _ _ to from)
     where
-      to : le_z a d && le_z c b ≡ true → le_z (max_z a c) (min_z b d) ≡ true
+      to : le_z a d && le_z c b ≡ true → le_z (int_max a c) (int_min b d) ≡ true
       to q =
           let first = le_z-yes' a d (and_left (le_z a d) (le_z c b) q) in
           let second = le_z-yes' c b (and_right (le_z a d) (le_z c b) q) in
           le-true (max-below (min-above (le_z-yes' a b e) first) (min-above second (le_z-yes' c d f)))
 
-      from : le_z (max_z a c) (min_z b d) ≡ true → le_z a d && le_z c b ≡ true
+      from : le_z (int_max a c) (int_min b d) ≡ true → le_z a d && le_z c b ≡ true
       from q =
-          let met = le_z-yes' (max_z a c) (min_z b d) q in
+          let met = le_z-yes' (int_max a c) (int_min b d) q in
           and-true (le-true (≤_trans (max-left a c) (≤_trans met (min-right b d)))) (le-true (≤_trans (max-right a c) (≤_trans met (min-left b d))))
 
 -- the row a..b met with the row c..d
 abbrev pub met_of : List ℤ → List ℤ → List ℤ → List ℤ → Row
-met_of a b c d = row_of (each max_z a c) (each min_z b d)
+met_of a b c d = row_of (each int_max a c) (each int_min b d)
 
--- ---- the tests at v of rows that can be read: lo and hi, and so on, are the ends as the code has them
-module _ {l h m k : List ℤ} {n v : ℕ} {x : Bool} {lo hi lo₂ hi₂ : ℤ} (o : Ordered l h n) (p : Ordered m k n) (below : v < n) where
-  pub lies-is : lo ≡ word_of l v → hi ≡ word_of h v → lo₂ ≡ word_of m v → hi₂ ≡ word_of k v → x ≡ le_z lo₂ lo && le_z hi hi₂ → x ≡ Lies (row_of l h) (row_of m k) v
-  lies-is a b c d q = rw (a, b, c, d) at q ∙ ends-within (word_of l v) (word_of h v) (word_of m v) (word_of k v) (o.ends v below)
+-- ---- the tests at v of rows that can be read
+module _ {l h : List ℤ} {n v : ℕ} {x : Bool} (o : Ordered l h n) (below : v < n) where
+  pub lies-is : (s : Row) → x ≡ le_z (word_of s.lows v) (word_of l v) && le_z (word_of h v) (word_of s.highs v) → x ≡ Lies (row_of l h) s v
+  lies-is s q = q ∙ ends-within (word_of l v) (word_of h v) (word_of s.lows v) (word_of s.highs v) (o.ends v below)
 
-  pub meets-is : lo ≡ word_of l v → hi ≡ word_of h v → lo₂ ≡ word_of m v → hi₂ ≡ word_of k v → x ≡ le_z lo hi₂ && le_z lo₂ hi → x ≡ Meets (row_of l h) (row_of m k) v
-  meets-is a b c d q = rw (a, b, c, d) at q ∙ overlap-is (word_of l v) (word_of h v) (word_of m v) (word_of k v) (o.ends v below) (p.ends v below)
+  pub meets-is : {m k : List ℤ} → Ordered m k n → x ≡ le_z (word_of l v) (word_of k v) && le_z (word_of m v) (word_of h v) → x ≡ Meets (row_of l h) (row_of m k) v
+  meets-is {m} {k} p q = q ∙ overlap-is (word_of l v) (word_of h v) (word_of m v) (word_of k v) (o.ends v below) (p.ends v below)
 
 -- where they meet, the ends of the met row are in order too
-pub met-is : (a b c d : List ℤ) (s : Row) {n v : ℕ} {x : Bool} {lo hi lo₂ hi₂ : ℤ} → all_below (Meets (row_of a b) (row_of c d)) n ≡ true → v < n
-    → lo ≡ max_z (word_of a v) (word_of c v) → hi ≡ min_z (word_of b v) (word_of d v) → lo₂ ≡ word_of s.lows v → hi₂ ≡ word_of s.highs v
-    → x ≡ le_z lo₂ lo && le_z hi hi₂ → x ≡ Lies (met_of a b c d) s v
-met-is a b c d s {n} {v} all below f g h k q =
+pub met-is : (a b c d : List ℤ) (s : Row) {n v : ℕ} {x : Bool} → all_below (Meets (row_of a b) (row_of c d)) n ≡ true → v < n
+    → x ≡ le_z (word_of s.lows v) (int_max (word_of a v) (word_of c v)) && le_z (int_min (word_of b v) (word_of d v)) (word_of s.highs v)
+    → x ≡ Lies (met_of a b c d) s v
+met-is a b c d s {n} {v} all below q =
     let met = sym (meet-some (word_of a v) (word_of b v) (word_of c v) (word_of d v)) ∙ all_below-each (Meets (row_of a b) (row_of c d)) n all v below in
-    rw (each-is max_z (max-is (≤ℤ_refl (pos 0))) a c v, each-is min_z (min-is (≤ℤ_refl (pos 0))) b d v)
-    (rw (f, g, h, k) at q
-    ∙ ends-within (max_z (word_of a v) (word_of c v)) (min_z (word_of b v) (word_of d v)) (word_of s.lows v) (word_of s.highs v) met)
+    rw (each-is int_max (max-is (≤ℤ_refl (pos 0))) a c v, each-is int_min (min-is (≤ℤ_refl (pos 0))) b d v)
+    (q ∙ ends-within (int_max (word_of a v) (word_of c v)) (int_min (word_of b v) (word_of d v)) (word_of s.lows v) (word_of s.highs v) met)
 
 -- ---- words written
 module _ (ws : List ℤ) {v i : ℕ} (z : ℤ) where
@@ -170,11 +166,6 @@ slot-written ws v x i a b h k =
     set_same (set (slots_of ws) v a) (set ws v a) x i b (simp length-set (omega arith)) (simp length-set h)
     (set_same (slots_of ws) ws v i a (omega arith) h (slots-within ws i k))
 
-same_tests : (f g : ℕ → Bool) (n : ℕ) → ((i : ℕ) → i < n → f i ≡ g i) → all_below f n ≡ all_below g n
-unfolding all_below
-same_tests f g zero h = refl
-same_tests f g (suc n) h = rw (same_tests f g n (λ i l. h i (omega arith)), h n (omega arith)) refl
-
 -- two lists of ends, with a..b written at v and then c..d at x
 abbrev pub written_row : List ℤ → List ℤ → ℕ → ℤ → ℤ → ℕ → ℤ → ℤ → Row
 written_row lows highs v a b x c d = row_of (set (set lows v a) x c) (set (set highs v b) x d)
@@ -185,5 +176,5 @@ module _ (lows highs : List ℤ) (n : ℕ) (few : n ≤ 16) (low : n ≤ length 
       → row_within_of n (written_row lows highs v a b x c d) s ≡ row_within_of n (written_row (slots_of lows) (slots_of highs) v a b x c d) s
   unfolding row_within_of
   slots-within-is v a b x c d s =
-      same_tests _ _ n
+      all_below-same _ _ n
       (λ i l. rw (slot-written lows v x i a c (omega arith) (omega arith), slot-written highs v x i b d (omega arith) (omega arith)) refl)

@@ -1,5 +1,5 @@
--- Refusal 11 by its tests. Of the points it looks at the tasks' first ones, which rise with the task; a loop over the tasks has the invariant
--- `Started t w u p`, u and p the loop's task and its first point:
+-- Refusal 11 by its tests. Of the points it looks at the tasks' first ones, which rise with the task; a loop over the tasks of a proposal p has the
+-- invariant `Started p u first`, u and first the loop's task and its first point:
 --     start         where the loop begins
 --     starts        the task can start: the invariant at the next one
 --     stops         it can't: what the loop's `return` gives
@@ -18,57 +18,56 @@ use lib.Dec.{eqb}
 use lib.IntN.{ℤ}
 use lib.ListN.{length}
 use lib.Signed.{le_z, ≤ℤ_refl}
-use Rattle.words.specs.declared.Found.TheVariants.{Nothing, At}
 use Rattle.words.specs.Words.{word_of, number_at}
 use Rattle.words.proofs.FirstLaws.{one-some_below}
 use Rattle.words.proofs.PartLaws.{part_length}
 use Rattle.interval.specs.Lattice.{within_of}
-use Rattle.interval.specs.declared.Interval.TheVariants.{Between}
 use Rattle.interval.proofs.IntegerLaws.{le-true}
 use Rattle.table.specs.Layout.{sizes_of, shares_of, starts_of, first_in, first_of}
 use Rattle.table.specs.Passes.{Passes}
+use Rattle.table.specs.declared.checked.Table.{Table}
+use Rattle.rules.proofs.ProposalLaws.{passed_table}
 use Rattle.table.proofs.LayoutLaws.{first_more}
 use Rattle.table.proofs.TaskLaws.{first-le}
-use Rattle.analysis.specs.Rows.{Row, range_of}
+use Rattle.analysis.specs.declared.Row.{Row}
+use Rattle.analysis.specs.Rows.{range_of}
+use Rattle.rules.specs.declared.proposal.Proposal.{Proposal}
 use Rattle.rules.specs.Proposal.{held_of, row_at}
 use Rattle.rules.specs.Rules.{is_first, holds_start, start_point, rule11}
-use Rattle.rules.specs.Examine.{places, first_bad_in}
-use Rattle.rules.proofs.PlaceLaws.{Sought, seek, skips, sought, unfound}
+use Rattle.words.specs.First.{places, first_bad_in}
+use Rattle.words.proofs.PlaceLaws.{Sought, seek, skips, sought, unfound}
 use Rattle.rules.proofs.RowLaws.{ends-within}
 use Rattle.rules.proofs.SomeLaws.{none-some_below}
+use Rattle.std.specs.Prelude.{None, Some}
+use Rattle.interval.specs.Interval.{span}
 
--- ---- a starting value within a row: it is compared with both ends, lo and hi as they were read
+-- ---- a starting value within a row: it is compared with both ends
 abbrev pub value_within : List ℤ → Row → ℕ → Bool
-value_within values r v = within_of (Between (word_of values v) (word_of values v)) (range_of r v)
+value_within values r v = within_of (span (word_of values v) (word_of values v)) (range_of r v)
 
-pub value-within : (values : List ℤ) (r : Row) (v : ℕ) {x : Bool} {z lo hi : ℤ} → z ≡ word_of values v → lo ≡ word_of r.lows v → hi ≡ word_of r.highs v
-    → x ≡ le_z lo z && le_z z hi → x ≡ value_within values r v
-value-within values r v e f g q =
+pub value-within : (values : List ℤ) (r : Row) (v : ℕ) → let z = word_of values v in
+    le_z (word_of r.lows v) z && le_z z (word_of r.highs v) ≡ value_within values r v
+value-within values r v =
     let z = word_of values v in
     let same = le-true (≤ℤ_refl z) in
-    rw (e, f, g) at q ∙ rw same at (ends-within z z (word_of r.lows v) (word_of r.highs v) same)
+    rw same at (ends-within z z (word_of r.lows v) (word_of r.highs v) same)
 
 -- each variable has one
-pub value_there : {t values : List ℤ} {v : ℕ} → Passes t → values ≡ starts_of t → v < (sizes_of t).variables → v < length values
+pub starts_count : (t : Table) → length t.starts.now ≡ t.sizes.variables
 unfolding starts_of
-value_there {t} table e l =
-    rw (e, part_length t (5 + (sizes_of t).tasks) (sizes_of t).variables (rw table.whole (omega arith))) l
+starts_count t =
+    let table = passed_table t in
+    let from = 5 + (sizes_of t.words.now).tasks in
+    rw (t.cut.starts, t.cut.sizes) (part_length t.words.now from (sizes_of t.words.now).variables (rw table.whole (omega arith)))
 
 -- ---- at a rest row
-pub start-at-rest : (t w : List ℤ) (p : ℕ) {b : Bool} → (sizes_of t).points ≤ p → b ≡ holds_start t (row_at t w p) → b ≡ rule11 t w p
+pub start_at_rest : (t w : List ℤ) (place : ℕ) → (sizes_of t).points ≤ place → rule11 t w place ≡ holds_start t (row_at t w place)
 unfolding rule11
-start-at-rest t w p l q = rw (le-ltb p (sizes_of t).points l) q
+start_at_rest t w place l = rw (le-ltb place (sizes_of t).points l)
 
--- ---- at a task's first point: it holds mutexes, or its row is tested
-abbrev pub Tested : List ℤ → List ℤ → ℕ → Bool
+-- ---- at a task's first point: no mutex is held there, and the row is tested
+abbrev Tested : List ℤ → List ℤ → ℕ → Bool
 Tested t w p = eqb (held_of w p) 0 && holds_start t (row_at t w p)
-
-module _ (t w : List ℤ) (p : ℕ) where
-  pub first_holds : (held_of w p ≡ 0 → ⊥) → false ≡ Tested t w p
-  first_holds h = rw (ne_eqb (held_of w p) 0 h)
-
-  pub first-free : {b : Bool} → held_of w p ≡ 0 → b ≡ holds_start t (row_at t w p) → b ≡ Tested t w p
-  first-free h q = rw (eq-eqb (held_of w p) 0 h) q
 
 -- ---- at a point of a table that passed
 module _ {t : List ℤ} (table : Passes t) where
@@ -98,39 +97,53 @@ module _ {t : List ℤ} (table : Passes t) where
       rw (lt-ltb (first_of t u) (sizes_of t).points (omega (arith, table.share u l, next-within u l)), first)
 
 -- ---- the loop over the tasks
-pub record Started (t w : List ℤ) (u p : ℕ) : Type 0 where
-  pub within : u ≤ (sizes_of t).tasks
-  pub first : p ≡ first_of t u
-  pub searched : Sought (rule11 t w) 0 (sizes_of t).points p
+pub record Started (p : Proposal) (u first : ℕ) : Type 0 where
+  pub within : u ≤ (sizes_of p.table.words.now).tasks
+  pub first_is : first ≡ first_of p.table.words.now u
+  pub searched : Sought (rule11 p.table.words.now p.words.now) 0 (sizes_of p.table.words.now).points first
 
-pub start : (t w : List ℤ) → Started t w 0 0
+pub start : (p : Proposal) → Started p 0 0
 unfolding first_of first_in
-start t w = record { within = omega arith; first = refl; searched = seek (omega arith) }
+start p = record { within = omega arith; first_is = refl; searched = seek }
 
-module _ {t w : List ℤ} {u p : ℕ} (table : Passes t) (s : Started t w u p) (l : u < (sizes_of t).tasks) where
-  pub start-below : p < (sizes_of t).points
-  start-below = omega (arith, s.first, table.share u l, next-within table u l)
+module _ {p : Proposal} {u first : ℕ} (s : Started p u first) (l : u < p.table.sizes.tasks) where
+  table : Passes p.table.words.now
+  table = passed_table p.table
 
-  tested : rule11 t w p ≡ Tested t w p
-  tested = rw s.first (first-tested table w u l)
+  is-task : u < (sizes_of p.table.words.now).tasks
+  is-task = rw p.table.cut.sizes at l
+
+  pub start_below : first < (sizes_of p.table.words.now).points
+  start_below = omega (arith, s.first_is, table.share u is-task, next-within table u is-task)
+
+  tested : rule11 p.table.words.now p.words.now first ≡ Tested p.table.words.now p.words.now first
+  tested = rw s.first_is (first-tested table p.words.now u is-task)
 
   -- n is the task's share, as it was read
-  pub starts : {n : ℕ} → Tested t w p ≡ true → n ≡ number_at (shares_of t) u → Started t w (u + 1) (p + n)
+  pub starts : {n : ℕ} → Tested p.table.words.now p.words.now first ≡ true → n ≡ number_at p.table.shares.now u → Started p (u + 1) (first + n)
   unfolding first_of
   starts {n} e f =
-      let next : p + n ≡ first_of t (suc u) = rw (f, s.first) (sym (first_more (shares_of t) u) ∙ ap (first_of t) (add-one u)) in
-      let first = s.first in
+      let t = p.table.words.now in
+      let next : first + n ≡ first_of t (suc u) =
+      rw (f, p.table.cut.shares, s.first_is) (sym (first_more (shares_of t) u) ∙ ap (first_of t) (add-one u)) in
+      let here = s.first_is in
       record {
-        within = omega arith;
-        first = next ∙ ap (first_of t) (sym (add-one u));
-        searched = skips (p + n) s.searched (omega arith) (omega (arith, next, next-within table u l))
-            (λ j past below. ⊎_elim (λ (q : p ≡ j). rw (← q) (tested ∙ e)) (λ lt. later-passes table w u j l (omega arith) (omega arith)) (eq-or-lt_of_le past));
+        within = omega (arith, is-task);
+        first_is = next ∙ ap (first_of t) (sym (add-one u));
+        searched = skips (first + n) s.searched (omega arith)
+            (λ j past below.
+            ⊎_elim (λ (q : first ≡ j). rw (← q) (tested ∙ e)) (λ lt. later-passes table p.words.now u j is-task (omega arith) (omega arith))
+            (eq-or-lt_of_le past));
       }
 
-  pub stops : Tested t w p ≡ false → At p ≡ first_bad_in (rule11 t w) (places 0 (sizes_of t).points)
-  stops e = sought s.searched start-below (tested ∙ e)
+  pub stops : Tested p.table.words.now p.words.now first ≡ false
+      → Some first ≡ first_bad_in (rule11 p.table.words.now p.words.now) (places 0 (sizes_of p.table.words.now).points)
+  stops e = sought s.searched start_below (tested ∙ e)
 
-pub started : {t w : List ℤ} {u p : ℕ} → Passes t → Started t w u p → (sizes_of t).tasks ≤ u → Nothing ≡ first_bad_in (rule11 t w) (places 0 (sizes_of t).points)
-started {t} {u = u} table s l =
-    let all : u ≡ (sizes_of t).tasks = omega (arith, s.within) in
-    unfound s.searched (omega (arith, s.first, ap (first_of t) all, table.sum))
+pub started : {p : Proposal} {u first : ℕ} → Started p u first → p.table.sizes.tasks ≤ u
+    → None ≡ first_bad_in (rule11 p.table.words.now p.words.now) (places 0 (sizes_of p.table.words.now).points)
+started {p} {u} s l =
+    let t = p.table.words.now in
+    let table = passed_table p.table in
+    let all : u ≡ (sizes_of t).tasks = omega (arith, s.within, rw p.table.cut.sizes at l) in
+    unfound s.searched (omega (arith, s.first_is, ap (first_of t) all, table.sum))

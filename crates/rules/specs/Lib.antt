@@ -1,8 +1,10 @@
 pub mod Held
 pub mod Proposal
+pub mod Parts
 pub mod Outcomes
 pub mod Rules
 pub mod Ready
 pub mod Alarms
 pub mod Examine
 pub mod Points
+pub mod Reached

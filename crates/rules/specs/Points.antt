@@ -4,13 +4,14 @@ use Rattle.std.specs.Prelude.{ℕ, true, false, List, ◌++◌, ℤ}
 use Rattle.words.specs.First.{or_else, unless}
 use Rattle.table.specs.Tree.{Cond}
 use Rattle.table.specs.declared.Point.{Point}
-use Rattle.analysis.specs.Rows.{Row, own_of}
+use Rattle.analysis.specs.declared.Row.{Row}
+use Rattle.analysis.specs.Rows.{own_of}
 use Rattle.analysis.specs.Analysis.{narrow_of}
 use Rattle.rules.specs.declared.Fits.{Fits}
 use Rattle.rules.specs.declared.Faults.{Faults}
 use Rattle.rules.specs.Outcomes.{Outcome, outcome_if, outcomes_by}
 use Rattle.rules.specs.Rules.{locks_fit, rows_fit, writes, rule12, rule13, rule14}
-use Rattle.rules.specs.Examine.{places, first_bad_in}
+use Rattle.words.specs.First.{places, first_bad_in}
 
 -- whether outcomes keep to rules 12 and 13
 abbrev pub side_of : List ℤ → List ℤ → List Outcome → Fits

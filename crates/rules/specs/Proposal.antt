@@ -3,7 +3,8 @@
 use Rattle.std.specs.Prelude.{ℕ, ◌+◌, ◌*◌, Bool, not, List, eqb, ℤ}
 use Rattle.words.specs.Words.{word_of, number_of, number_at, part_of}
 use Rattle.table.specs.Layout.{sizes_of}
-use Rattle.analysis.specs.Rows.{Row, row_of}
+use Rattle.analysis.specs.declared.Row.{Row}
+use Rattle.analysis.specs.Rows.{row_of}
 
 -- ---- sizes
 unfoldable pub entries_of : List ℤ → ℕ

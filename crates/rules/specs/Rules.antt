@@ -1,18 +1,18 @@
 -- Refusals 7 to 16, each a test at a place (document 01, 'Refusals of a check').
 -- Assumes nothing.
-use Rattle.std.specs.Prelude.{ℕ, zero, suc, ◌-◌, ◌%◌, ◌^◌, Bool, true, false, not, cond, ◌&&◌, ◌||◌, List, [], ◌∷◌, eqb, leb, ltb, ℤ, pos, negsuc}
+use Rattle.std.specs.Prelude.{ℕ, zero, suc, ◌-◌, ◌%◌, ◌^◌, Bool, true, false, not, cond, ◌&&◌, ◌||◌, List, [], ◌∷◌, eqb, leb, ltb, ℤ, pos, negsuc, None, Option, Some}
 use Rattle.std.specs.Int.Signed.{le_z}
 use Rattle.words.specs.Words.{word_of, number_at}
 use Rattle.words.specs.First.{all_below, some_below}
-use Rattle.interval.specs.Interval.{from_to}
+use Rattle.interval.specs.Interval.{from_to, span}
 use Rattle.interval.specs.Lattice.{within_of}
 use Rattle.interval.specs.declared.Interval.{Interval}
-use Rattle.interval.specs.declared.Interval.TheVariants.{None, Between}
 use Rattle.table.specs.Layout.{sizes_of, starts_of, points_of, first_of, task_of}
 use Rattle.table.specs.Decode.{point_of}
 use Rattle.table.specs.declared.Point.{Point}
 use Rattle.table.specs.declared.Point.TheVariants.{End, Assign, Test, Lock, Unlock}
-use Rattle.analysis.specs.Rows.{Row, range_of}
+use Rattle.analysis.specs.declared.Row.{Row}
+use Rattle.analysis.specs.Rows.{range_of}
 use Rattle.rules.specs.Held.{has_of, disjoint_of}
 use Rattle.rules.specs.Proposal.{entries_of, heads_from, lows_from, held_word_of, held_of, reached_of, head_of, lows_of, highs_of, row_at, rest_at, entry_low, entry_high}
 use Rattle.rules.specs.Outcomes.{Outcome, row_within_of, written_of, outcomes_of}
@@ -76,7 +76,7 @@ rule10 t w (suc i) = before_of t w i (head_of t w (suc i) 0) (head_of t w (suc i
 
 -- ---- 11 start: 'a first point with held not 0, or starting values outside its row; else outside a rest row', points first, then mutexes
 unfoldable pub holds_start : List ℤ → Row → Bool
-holds_start t r = all_below (λ v. within_of (Between (word_of (starts_of t) v) (word_of (starts_of t) v)) (range_of r v)) (sizes_of t).variables
+holds_start t r = all_below (λ v. within_of (span (word_of (starts_of t) v) (word_of (starts_of t) v)) (range_of r v)) (sizes_of t).variables
 
 abbrev pub is_first : List ℤ → ℕ → Bool
 is_first t p = some_below (λ u. eqb (first_of t u) p) (sizes_of t).tasks
@@ -106,13 +106,13 @@ unfoldable pub rule13 : List ℤ → List ℤ → ℕ → Bool
 rule13 t w p = implies (reached_of w p) (rows_fit t w (outcomes_of t w p))
 
 -- ---- 14 write: 'written interval without an entry for (task, held set, variable) holding it'
-unfoldable pub files : List ℤ → List ℤ → ℕ → ℕ → ℕ → Interval → ℕ → Bool
+unfoldable pub files : List ℤ → List ℤ → ℕ → ℕ → ℕ → Option Interval → ℕ → Bool
 files t w u s v x i =
     eqb (head_of t w i 0) u && (eqb (head_of t w i 1) s && (eqb (head_of t w i 2) v && within_of x (from_to (entry_low t w i) (entry_high t w i))))
 
-unfoldable pub filed : List ℤ → List ℤ → ℕ → ℕ → ℕ → Interval → Bool
+unfoldable pub filed : List ℤ → List ℤ → ℕ → ℕ → ℕ → Option Interval → Bool
 filed t w u s v None = true
-filed t w u s v (Between lo hi) = some_below (files t w u s v (Between lo hi)) (entries_of w)
+filed t w u s v (Some e) = some_below (files t w u s v (span e.low e.high)) (entries_of w)
 
 -- by what stands at the point p, its held set s and its row r
 unfoldable pub writes : List ℤ → List ℤ → Point → ℕ → ℕ → Row → Bool

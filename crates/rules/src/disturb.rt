@@ -1,191 +1,129 @@
 // Refusal 15: a scan over points and, inside it, over entries that ends at the first pair that fails. A point whose row holds the hull of the
 // other tasks' entries is passed over without the inner scan.
 ghost use Rattle.std.specs.Prelude.{◌≡◌, not, ◌+◌, ◌<◌, ◌≤◌, length, set};
+ghost use Rattle.std.specs.Int.{int_min, int_max};
 ghost use Rattle.words.specs.Words.{word_of};
-ghost use Rattle.words.specs.First.{all_below};
-ghost use Rattle.interval.specs.Integer.{min_z, max_z};
+ghost use Rattle.words.specs.First.{all_below, first_bad_in};
 ghost use Rattle.table.specs.Layout.{sizes_of};
-ghost use Rattle.analysis.specs.Rows.{row_of};
-ghost use Rattle.analysis.specs.Arrays.{row_in};
+ghost use Rattle.analysis.specs.Rows.{row_of, seen};
+ghost use Rattle.rules.specs.Proposal.{entries_of};
 ghost use Rattle.rules.specs.Rules.{implies, takes, disturbs, rule15};
-ghost use Rattle.rules.specs.Ready.{Apart, Readable, Listed, Around, holds_hull, Ready};
-ghost use Rattle.rules.specs.Examine.{first_bad_in};
+ghost use Rattle.rules.specs.Ready.{Whole, Around, holds_hull};
 
-use crate::Places;
+use crate::checked::Checked;
 use crate::held::disjoint;
-use crate::proposal::{
-    entries, entry_highs, entry_lows, head_in, heads, held, highs, is_reached, lows, natural,
-    row_highs, row_lows, word_at,
-};
+use crate::proposal::{is_reached, word_at};
 use crate::rows::is_inside;
-use analysis::Row;
-use analysis::rows::own;
-use interval::integer::{max32, min32};
+use analysis::{Ends, Row};
+use interval::Interval;
 use table::layout::task_of;
-use words::Found;
+use words::{Places, all_below, filled};
 
-// Whether the row's interval holds entry i; the heads and the ends of the entries are at hand.
-fn is_taken<'a>(
-    t: &'a [i32],
-    w: &'a [i32],
-    heads: &'a [i32],
-    from: &'a [i32],
-    to: &'a [i32],
-    lows: &'a [i32],
-    highs: &'a [i32],
-    i: usize,
-) -> bool
-    requires apart { Apart t.now w.now heads.now from.now to.now }
-    requires readable { Readable heads.now from.now to.now lows.now highs.now i }
-    ensures { result ≡ takes t.now w.now (row_of lows.now highs.now) i }
+// Whether the row's interval holds entry i.
+#[tactic(auto, using(crate::proofs::DisturbLaws::taken_is, words::proofs::Signed::read_back))]
+fn is_taken(all: &Checked, row: &Ends, i: usize) -> bool
+    requires whole { Whole all.now.proposal.table.words.now row.now.lows.now row.now.highs.now }
+    requires i_bound { i < entries_of all.now.proposal.words.now }
+    ensures { result ≡ takes all.now.proposal.table.words.now all.now.proposal.words.now (seen row.now) i }
 {
-    let v = natural(word_at(heads, 3 * i + 2));
-    is_inside(
-        word_at(from, i),
-        word_at(to, i),
-        word_at(lows, v),
-        word_at(highs, v),
-    )
+    let v = all.variable(i);
+    let x = all.span(i);
+    is_inside(x.low, x.high, word_at(row.lows, v), word_at(row.highs, v))
 }
 
 // Whether entry i is outside the row, of another task than u, with a held set disjoint from s. Most entries lie within the row, so that is
 // asked first.
-fn is_disturbed<'a>(
-    t: &'a [i32],
-    w: &'a [i32],
-    heads: &'a [i32],
-    from: &'a [i32],
-    to: &'a [i32],
-    u: usize,
-    s: usize,
-    lows: &'a [i32],
-    highs: &'a [i32],
-    i: usize,
-) -> bool
-    requires apart { Apart t.now w.now heads.now from.now to.now }
-    requires readable { Readable heads.now from.now to.now lows.now highs.now i }
-    ensures { result ≡ not (implies (disturbs t.now w.now u s i) (takes t.now w.now (row_of lows.now highs.now) i)) }
+#[tactic(auto, unfolding(crate::specs::Rules::disturbs))]
+fn is_disturbed(all: &Checked, u: usize, s: usize, row: &Ends, i: usize) -> bool
+    requires whole { Whole all.now.proposal.table.words.now row.now.lows.now row.now.highs.now }
+    requires i_bound { i < entries_of all.now.proposal.words.now }
+    ensures { result ≡ not (implies (disturbs all.now.proposal.table.words.now all.now.proposal.words.now u s i) (takes all.now.proposal.table.words.now all.now.proposal.words.now (seen row.now) i)) }
 {
-    if is_taken(t, w, heads, from, to, lows, highs, i) {
-        return false;
-    }
-    if head_in(heads, i, 0) == u {
-        return false;
-    }
-    disjoint(head_in(heads, i, 1), s)
+    let p = &all.proposal;
+    !is_taken(all, row, i) && p.head(i, 0) != u && disjoint(p.head(i, 1), s)
 }
 
-// The row with the interval of v widened by a to b: the lesser low end, and the greater high end.
-fn widen_to(row: &mut Row, v: usize, a: i32, b: i32)
+// The row with the interval of v widened by x: the lesser low end, and the greater high end.
+fn widen_to(row: &mut Row, v: usize, x: Interval)
     requires { v < 16 }
-    ensures { row.new ≡ set (set row.old v (min_z (word_of row.old v) a)) (v + 16) (max_z (word_of row.old (v + 16)) b) }
+    ensures value { row.new ≡ row_of (set row.old.lows v (int_min (word_of row.old.lows v) x.low)) (set row.old.highs v (int_max (word_of row.old.highs v) x.high)) }
+    ensures there { (v < length row.old.lows) × (v < length row.old.highs) }
 {
-    let low = min32(row[v], a);
-    let high = max32(row[v + 16], b);
-    row[v] = low;
-    row[v + 16] = high;
+    row.lows[v] = row.lows[v].min(x.low);
+    row.highs[v] = row.highs[v].max(x.high);
 }
 
 // The row that is around the entries before i, around entry i too unless it is one of the task u.
-fn widen_by<'a, 'b>(
-    row: &'b mut Row,
-    heads: &'a [i32],
-    from: &'a [i32],
-    to: &'a [i32],
-    i: usize,
-    u: usize,
-)
-    requires listed { Listed heads.now from.now to.now × (i < length from.now) }
-    requires row_len { (length row.old ≡ 32) × Around heads.now from.now to.now u (row_in row.old) i }
-    ensures { (length row.new ≡ 32) × Around heads.now from.now to.now u (row_in row.new) (i + 1) }
+fn widen_by(row: &mut Row, all: &Checked, i: usize, u: usize)
+    requires i_bound { i < entries_of all.now.proposal.words.now }
+    requires around { Around all.now.proposal.table.words.now all.now.proposal.words.now u row.old i }
+    ensures { Around all.now.proposal.table.words.now all.now.proposal.words.now u row.new (i + 1) }
 {
-    if head_in(heads, i, 0) == u {
+    if all.proposal.head(i, 0) == u {
         return;
     }
-    let v = natural(word_at(heads, 3 * i + 2));
-    widen_to(row, v, word_at(from, i), word_at(to, i));
+    widen_to(row, all.variable(i), all.span(i));
 }
 
 // The hull of the entries of other tasks than u: of each variable the least low end and the greatest high end. A variable without entries keeps the
 // ends of no interval, which every row holds.
-fn hull<'a>(heads: &'a [i32], from: &'a [i32], to: &'a [i32], u: usize) -> Row
-    requires { Listed heads.now from.now to.now }
-    ensures { Around heads.now from.now to.now u (row_in result) (length from.now) }
+fn hull(all: &Checked, u: usize) -> Row
+    ensures { Around all.now.proposal.table.words.now all.now.proposal.words.now u result (entries_of all.now.proposal.words.now) }
 {
-    let lows = [2147483647i32; 16];
-    let highs = [-2147483648i32; 16];
-    let mut row = own(&lows, &highs);
-    let mut i = 0;
-    while i < from.len() {
-        widen_by(&mut row, heads, from, to, i, u);
-        i += 1;
+    let mut row = Row {
+        lows: filled(i32::MAX),
+        highs: filled(i32::MIN),
+    };
+    for i in 0..all.proposal.entries {
+        widen_by(&mut row, all, i, u);
     }
     row
 }
 
 // The hull for the task u in the place of that for a task: tasks own consecutive points, so that it mostly stays.
-fn hull_for<'a, 'b>(
-    around: &'b mut Row,
-    task: usize,
-    heads: &'a [i32],
-    from: &'a [i32],
-    to: &'a [i32],
-    u: usize,
-)
-    requires listed { Listed heads.now from.now to.now }
-    requires around { Around heads.now from.now to.now task (row_in around.old) (length from.now) }
-    ensures { Around heads.now from.now to.now u (row_in around.new) (length from.now) }
+fn hull_for(around: &mut Row, task: usize, all: &Checked, u: usize)
+    requires { Around all.now.proposal.table.words.now all.now.proposal.words.now task around.old (entries_of all.now.proposal.words.now) }
+    ensures { Around all.now.proposal.table.words.now all.now.proposal.words.now u around.new (entries_of all.now.proposal.words.now) }
 {
     if task != u {
-        *around = hull(heads, from, to, u);
+        *around = hull(all, u);
     }
 }
 
 // Whether a row holds the hull at each variable, and so every entry that the hull is around.
-fn holds_hull<'a>(hull: &'a Row, lows: &'a [i32], highs: &'a [i32]) -> bool
-    requires { (length lows.now ≤ 16) × (length highs.now ≡ length lows.now) }
-    ensures { result ≡ all_below (holds_hull (row_in hull.now) (row_of lows.now highs.now)) (length lows.now) }
+fn holds_hull(hull: &Row, row: &Ends) -> bool
+    requires { (length row.now.lows.now ≤ 16) × (length row.now.highs.now ≡ length row.now.lows.now) }
+    ensures { result ≡ all_below (holds_hull hull.now (seen row.now)) (length row.now.lows.now) }
 {
-    let mut v = 0;
-    while v < lows.len() {
-        if !is_inside(hull[v], hull[v + 16], lows[v], highs[v]) {
-            return false;
-        }
-        v += 1;
-    }
-    true
+    all_below(
+        row.lows.len(),
+        |v| is_inside(hull.lows[v], hull.highs[v], row.lows[v], row.highs[v]),
+    )
 }
 
-pub(crate) fn first_disturbed<'a>(t: &'a [i32], w: &'a [i32], r: Places) -> Found
-    requires ready { Ready t.now w.now }
-    requires from_le_to { (r.from ≤ r.to) × (r.to ≤ (sizes_of t.now).points) }
-    ensures { result ≡ first_bad_in (rule15 t.now w.now) r }
+pub(crate) fn first_disturbed(all: &Checked, r: Places) -> Option<usize>
+    requires { r.to ≤ (sizes_of all.now.proposal.table.words.now).points }
+    ensures { result ≡ first_bad_in (rule15 all.now.proposal.table.words.now all.now.proposal.words.now) r }
 {
-    let all_lows = lows(t, w);
-    let all_highs = highs(t, w);
-    let count = entries(w);
-    let all = heads(t, w);
-    let from = entry_lows(t, w);
-    let to = entry_highs(t, w);
-    let mut u = task_of(t, r.from);
-    let mut around = hull(all, from, to, u);
-    let mut found = Found::Nothing;
+    let table = all.proposal.table.words;
+    let mut u = task_of(table, r.from);
+    let mut around = hull(all, u);
+    let mut found = None;
     'pairs: for p in r.from..r.to {
-        let s = held(w, p);
+        let s = all.proposal.held(p);
         if !is_reached(s) {
             continue 'pairs;
         }
         let task = u;
-        u = task_of(t, p);
-        hull_for(&mut around, task, all, from, to, u);
-        let lows = row_lows(t, w, all_lows, p);
-        let highs = row_highs(t, w, all_highs, p);
-        if holds_hull(&around, lows, highs) {
+        u = task_of(table, p);
+        hull_for(&mut around, task, all, u);
+        let row = all.row(p);
+        if holds_hull(&around, &row) {
             continue 'pairs;
         }
-        for i in 0..count {
-            if is_disturbed(t, w, all, from, to, u, s, lows, highs, i) {
-                found = Found::At(p);
+        for i in 0..all.proposal.entries {
+            if is_disturbed(all, u, s, &row, i) {
+                found = Some(p);
                 break 'pairs;
             }
         }

@@ -1,83 +1,48 @@
 // Refusal 14's search: the entry for a task, a held set and a variable, found in the order of the heads.
-ghost use Rattle.std.specs.Prelude.{◌≡◌, ◌<◌, ◌≤◌};
+ghost use Rattle.std.specs.Prelude.{◌≡◌, ◌≤◌, Some};
 ghost use Rattle.words.specs.First.{first_bad};
 ghost use Rattle.rules.specs.Proposal.{entries_of};
 ghost use Rattle.rules.specs.Rules.{before_of, files, filed};
-ghost use Rattle.rules.specs.Ready.{Bounded, Ready};
 
+use crate::checked::Checked;
 use crate::order::before;
-use crate::proposal::{entries, entry_range, head, heads};
+use crate::proposal::Proposal;
 use interval::Interval;
 use interval::lattice::within;
-use words::Found;
 
 // The first entry whose head isn't before (u, s, v). Heads rise, so half of what is left is dropped at each turn.
-fn find<'a>(t: &'a [i32], w: &'a [i32], u: usize, s: usize, v: usize) -> Found
-    requires { Ready t.now w.now }
-    ensures { result ≡ first_bad (λ i. before_of t.now w.now i u s v) (entries_of w.now) }
+fn find(all: &Checked, u: usize, s: usize, v: usize) -> Option<usize>
+    ensures { result ≡ first_bad (λ i. before_of all.now.proposal.table.words.now all.now.proposal.words.now i u s v) (entries_of all.now.proposal.words.now) }
 {
-    let count = entries(w);
-    let all = heads(t, w);
+    let p = &all.proposal;
     let mut low = 0;
-    let mut high = count;
+    let mut high = p.entries;
     while low < high {
         let middle = low + (high - low) / 2;
-        if before(t, w, all, middle, u, s, v) {
+        if before(p, middle, u, s, v) {
             low = middle + 1;
         } else {
             high = middle;
         }
     }
-    if low < count {
-        return Found::At(low);
-    }
-    Found::Nothing
+    (low < p.entries).then_some(low)
 }
 
 // Whether entry i is for (u, s, v) and holds the interval x.
-fn files_at<'a>(
-    t: &'a [i32],
-    w: &'a [i32],
-    u: usize,
-    s: usize,
-    v: usize,
-    x: Interval,
-    i: usize,
-) -> bool
-    requires bounded { Bounded t.now w.now }
-    requires i_bound { i ≤ 4294967295 }
-    ensures { result ≡ files t.now w.now u s v x i }
+#[tactic(auto, unfolding(crate::specs::Rules::files))]
+fn files_at(p: &Proposal, u: usize, s: usize, v: usize, x: Option<Interval>, i: usize) -> bool
+    requires { i ≤ 4294967295 }
+    ensures { result ≡ files p.now.table.words.now p.now.words.now u s v x i }
 {
-    let all = heads(t, w);
-    if head(t, w, all, i, 0) != u {
-        return false;
-    }
-    if head(t, w, all, i, 1) != s {
-        return false;
-    }
-    if head(t, w, all, i, 2) != v {
-        return false;
-    }
-    within(x, entry_range(t, w, i))
+    p.head(i, 0) == u && p.head(i, 1) == s && p.head(i, 2) == v && within(x, p.span(i))
 }
 
 // Whether what is written has an entry.
-pub(crate) fn is_filed<'a>(
-    t: &'a [i32],
-    w: &'a [i32],
-    u: usize,
-    s: usize,
-    v: usize,
-    x: Interval,
-) -> bool
-    requires { Ready t.now w.now }
-    ensures { result ≡ filed t.now w.now u s v x }
+pub(crate) fn is_filed(all: &Checked, u: usize, s: usize, v: usize, x: Interval) -> bool
+    ensures { result ≡ filed all.now.proposal.table.words.now all.now.proposal.words.now u s v (Some x) }
 {
-    let Interval::Between(low, high) = x else {
-        return true;
-    };
-    let Found::At(i) = find(t, w, u, s, v) else {
-        return false;
-    };
-    files_at(t, w, u, s, v, Interval::Between(low, high), i)
+    match find(all, u, s, v) {
+        Some(i) => files_at(&all.proposal, u, s, v, Some(x), i),
+        None => false,
+    }
 }

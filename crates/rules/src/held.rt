@@ -15,10 +15,7 @@ pub(crate) fn with(s: usize, m: usize) -> usize
     requires { (m < 8) × (s ≤ 4294967295) }
     ensures { result ≡ with_of s m }
 {
-    if has(s, m) {
-        return s;
-    }
-    s + (1 << m)
+    if has(s, m) { s } else { s + (1 << m) }
 }
 
 // The set s without m.
@@ -26,10 +23,7 @@ pub(crate) fn without(s: usize, m: usize) -> usize
     requires { m < 8 }
     ensures { result ≡ without_of s m }
 {
-    if has(s, m) {
-        return s - (1 << m);
-    }
-    s
+    if has(s, m) { s - (1 << m) } else { s }
 }
 
 // Whether no mutex is in both: one mask of the eight that a table can have.

@@ -1,8 +1,9 @@
 // Refusals 7 to 16: a proposal's layout, held sets, the outcomes of points, and each rule with its smallest place.
 #![tactic(auto)]
 
-use words::Found;
+use words::Places;
 
+mod checked;
 mod disturb;
 mod entry;
 pub mod examine;
@@ -12,19 +13,13 @@ mod point;
 mod points;
 mod proposal;
 mod range;
+mod reached;
 mod rest;
 mod rows;
 mod start;
 
-// The places that a search goes over: from one on, and below another.
-#[derive(Clone, Copy)]
-pub struct Places {
-    pub from: usize,
-    pub to: usize,
-}
-
 // The places that rules 11 to 16 are about: points; rest rows, as points + mutex; entries, as points + entry.
-#[derive(Clone, Copy)]
+#[derive(Clone, Copy, Debug, PartialEq, Eq)]
 pub struct Scope {
     pub points: Places,
     pub rests: Places,
@@ -32,7 +27,7 @@ pub struct Scope {
 }
 
 // Whether rules 12, 13 and 14 hold at a point.
-#[derive(Clone, Copy)]
+#[derive(Clone, Copy, Debug, PartialEq, Eq)]
 pub struct Fits {
     pub locks: bool,
     pub flow: bool,
@@ -40,9 +35,9 @@ pub struct Fits {
 }
 
 // The smallest places at which rules 12, 13 and 14 fail.
-#[derive(Clone, Copy)]
+#[derive(Clone, Copy, Debug, PartialEq, Eq)]
 pub struct Faults {
-    pub locks: Found,
-    pub flow: Found,
-    pub write: Found,
+    pub locks: Option<usize>,
+    pub flow: Option<usize>,
+    pub write: Option<usize>,
 }

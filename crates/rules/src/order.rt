@@ -1,11 +1,11 @@
 // Refusal 10: the order of entries by their heads.
 ghost use Rattle.std.specs.Prelude.{◌≡◌, ◌≤◌};
 ghost use Rattle.words.specs.First.{first_bad};
-ghost use Rattle.rules.specs.Proposal.{entries_of, heads_of};
+ghost use Rattle.rules.specs.Proposal.{entries_of};
 ghost use Rattle.rules.specs.Rules.{above, before_of, rule10};
 
-use crate::proposal::{entries, head, heads};
-use words::Found;
+use crate::proposal::Proposal;
+use words::first_bad;
 
 // Whether a is below b, or is b and the rest is below.
 fn is_above(a: usize, b: usize, next: bool) -> bool
@@ -15,58 +15,26 @@ fn is_above(a: usize, b: usize, next: bool) -> bool
 }
 
 // Whether the head of entry i is before task u, set s, variable v.
-pub(crate) fn before<'a>(
-    t: &'a [i32],
-    w: &'a [i32],
-    heads: &'a [i32],
-    i: usize,
-    u: usize,
-    s: usize,
-    v: usize,
-) -> bool
-    requires heads_value { heads.now ≡ heads_of t.now w.now }
-    requires i_bound { i ≤ 4294967295 }
-    ensures { result ≡ before_of t.now w.now i u s v }
+#[tactic(auto, unfolding(crate::specs::Rules::before_of))]
+pub(crate) fn before(p: &Proposal, i: usize, u: usize, s: usize, v: usize) -> bool
+    requires { i ≤ 4294967295 }
+    ensures { result ≡ before_of p.now.table.words.now p.now.words.now i u s v }
 {
-    let last = head(t, w, heads, i, 2) < v;
-    is_above(
-        head(t, w, heads, i, 0),
-        u,
-        is_above(head(t, w, heads, i, 1), s, last),
-    )
+    let last = p.head(i, 2) < v;
+    is_above(p.head(i, 0), u, is_above(p.head(i, 1), s, last))
 }
 
 // Refusal 10 at an entry.
-fn order_ok<'a>(t: &'a [i32], w: &'a [i32], heads: &'a [i32], i: usize) -> bool
-    requires heads_value { heads.now ≡ heads_of t.now w.now }
-    requires i_bound { i ≤ 4294967295 }
-    ensures { result ≡ rule10 t.now w.now i }
+#[tactic(auto, using(crate::proofs::RangeLaws::order_is), unfolding(crate::specs::Rules::rule10))]
+fn order_ok(p: &Proposal, i: usize) -> bool
+    requires { i ≤ 4294967295 }
+    ensures { result ≡ rule10 p.now.table.words.now p.now.words.now i }
 {
-    if i == 0 {
-        return true;
-    }
-    before(
-        t,
-        w,
-        heads,
-        i - 1,
-        head(t, w, heads, i, 0),
-        head(t, w, heads, i, 1),
-        head(t, w, heads, i, 2),
-    )
+    i == 0 || before(p, i - 1, p.head(i, 0), p.head(i, 1), p.head(i, 2))
 }
 
-pub(crate) fn first_order<'a>(t: &'a [i32], w: &'a [i32]) -> Found
-    ensures { result ≡ first_bad (rule10 t.now w.now) (entries_of w.now) }
+pub(crate) fn first_order(p: &Proposal) -> Option<usize>
+    ensures { result ≡ first_bad (rule10 p.now.table.words.now p.now.words.now) (entries_of p.now.words.now) }
 {
-    let count = entries(w);
-    let all = heads(t, w);
-    let mut i = 0;
-    while i < count {
-        if !order_ok(t, w, all, i) {
-            return Found::At(i);
-        }
-        i += 1;
-    }
-    Found::Nothing
+    first_bad(p.entries, |i| order_ok(p, i))
 }

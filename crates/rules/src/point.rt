@@ -1,36 +1,37 @@
 // Rules 12, 13 and 14 at a point, with the alarms of its expression marked in the same walk.
-ghost use Rattle.std.specs.Prelude.{◌≡◌, true, ◌&&◌, ◌<◌, ◌≤◌};
+#![tactic(auto, unfolding(analysis::specs::Alarms::marked_of, analysis::specs::Rows::maybe_by, analysis::specs::Rows::row_if, crate::specs::Alarms::alarms_at, crate::specs::Alarms::alarms_by, crate::specs::Alarms::alarms_if, crate::specs::Outcomes::assigned, crate::specs::Outcomes::meet_rows_of, crate::specs::Outcomes::only_if, crate::specs::Outcomes::outcome_if, crate::specs::Outcomes::outcomes_by, crate::specs::Outcomes::outcomes_of, crate::specs::Outcomes::outcomes_with, crate::specs::Outcomes::written_of, crate::specs::Points::fits_at, crate::specs::Points::fits_by, crate::specs::Rules::all_outcomes, crate::specs::Rules::filed, crate::specs::Rules::locks_fit, crate::specs::Rules::rows_fit, crate::specs::Rules::rule12, crate::specs::Rules::rule13, crate::specs::Rules::rule14, crate::specs::Rules::writes))]
+
+ghost use Rattle.std.specs.Prelude.{◌≡◌, true, ◌&&◌, ◌<◌};
 ghost use Rattle.interval.specs.Interval.{taken_of};
-ghost use Rattle.table.specs.Layout.{sizes_of, points_of, nodes_of};
+ghost use Rattle.table.specs.Layout.{sizes_of, points_of};
 ghost use Rattle.table.specs.Decode.{point_of};
 ghost use Rattle.table.specs.Tree.{compare, arith_at, cond_at};
 ghost use Rattle.table.specs.declared.Point.TheVariants.{Assign, Test, Lock, Unlock};
-ghost use Rattle.analysis.specs.Rows.{row_of, own_of, maybe_by};
-ghost use Rattle.analysis.specs.Arrays.{row_in};
+ghost use Rattle.analysis.specs.Rows.{seen, own_of, maybe_by};
 ghost use Rattle.analysis.specs.Alarms.{marked_of};
 ghost use Rattle.analysis.specs.Analysis.{cond_alarms_of};
 ghost use Rattle.analysis.specs.Cuts.{cut_row_of};
-ghost use Rattle.rules.specs.Proposal.{row_at};
 ghost use Rattle.rules.specs.Outcomes.{outcome_if};
-ghost use Rattle.rules.specs.Alarms.{alarms_by, alarms_at};
-ghost use Rattle.rules.specs.Ready.{Ordered, Whole, Rows};
-ghost use Rattle.rules.specs.Points.{side_of, tested_of, fits_by, fits_at};
+ghost use Rattle.rules.specs.Alarms.{alarms_at};
+ghost use Rattle.rules.specs.Ready.{Ordered};
+ghost use Rattle.rules.specs.Points.{fits_at};
+ghost use Rattle.rules.specs.Reached.{table_at, nodes_at, There, fits_there, alarms_there, side_there, tested_there};
 
 use crate::Fits;
+use crate::checked::Checked;
 use crate::entry::is_filed;
 use crate::held::{has, with, without};
-use crate::proposal::{held, is_reached, row_highs, row_lows};
+use crate::proposal::is_reached;
+use crate::reached::Reached;
 use crate::rows::{meets, met_within, row_within, written_within};
 use analysis::Row;
 use analysis::evaluate::{sides, value_on};
 use analysis::narrow::{bare, met_if, other_if, variable_or};
-use analysis::rows::{high_ends, low_ends, own};
 use interval::narrow::cuts;
 use interval::{Comparison, Cuts, Interval};
 use table::decode::{point_at, shape_at};
 use table::layout::task_of;
 use table::{Point, Shape};
-use words::number_at;
 
 // Where there is no outcome and nothing is written, nothing fails.
 fn no_outcome() -> Fits
@@ -45,79 +46,39 @@ fn no_outcome() -> Fits
 
 // An assignment of the node e to v, going on at q: the expression is evaluated once, for its alarms and for what is written. One interval is written:
 // 16 is past every row.
-fn assign_fits<'a, 'b>(
-    t: &'a [i32],
-    w: &'a [i32],
-    nodes: &'a [i32],
-    all_lows: &'a [i32],
-    all_highs: &'a [i32],
-    p: usize,
-    s: usize,
-    lows: &'a [i32],
-    highs: &'a [i32],
-    v: usize,
-    e: usize,
-    q: usize,
-    marks: &'b mut [u8],
-) -> Fits
-    requires rows { Rows t.now w.now all_lows.now all_highs.now }
-    requires whole { Whole t.now lows.now highs.now }
-    requires nodes_value { nodes.now ≡ nodes_of t.now }
-    requires q_bound { q < (sizes_of t.now).points }
-    ensures value { result ≡ fits_by t.now w.now (Assign v e q) p s (row_of lows.now highs.now) }
-    ensures marks_after { marks.new ≡ marked_of marks.old (alarms_by t.now (Assign v e q) (row_of lows.now highs.now)) }
+fn assign_fits(at: &Reached, v: usize, e: usize, q: usize, marks: &mut [u8]) -> Fits
+    requires { There at.now q }
+    ensures value { result ≡ fits_there at.now (Assign v e q) }
+    ensures marks_after { marks.new ≡ marked_of marks.old (alarms_there at.now (Assign v e q)) }
 {
-    let x = value_on(nodes, e, lows, highs, marks);
-    let Interval::Between(low, high) = x else {
+    let all = at.all;
+    let table = &all.proposal.table;
+    let Some(x) = value_on(table.nodes, e, &at.row, marks) else {
         return no_outcome();
     };
+    let none = Interval { low: 0, high: 0 };
+    let variables = table.sizes.variables;
     Fits {
-        locks: held(w, q) == s,
-        flow: written_within(
-            lows,
-            highs,
-            v,
-            low,
-            high,
-            16,
-            0,
-            0,
-            row_lows(t, w, all_lows, q),
-            row_highs(t, w, all_highs, q),
-            number_at(t, 1),
-        ),
-        write: is_filed(t, w, task_of(t, p), s, v, Interval::Between(low, high)),
+        locks: all.proposal.held(q) == at.held,
+        flow: written_within(&at.row, v, x, 16, none, &all.row(q), variables),
+        write: is_filed(all, task_of(table.words, at.point), at.held, v, x),
     }
 }
 
-// A side of a test that goes on at q with the held set s, by what narrowing left: whether there is a row, and the row.
-fn side<'a>(
-    t: &'a [i32],
-    w: &'a [i32],
-    all_lows: &'a [i32],
-    all_highs: &'a [i32],
-    s: usize,
-    q: usize,
-    some: bool,
-    row: &'a Row,
-) -> Fits
-    requires rows { Rows t.now w.now all_lows.now all_highs.now }
-    requires ordered { Ordered (row_in row.now).lows (row_in row.now).highs (sizes_of t.now).variables }
-    requires q_bound { q < (sizes_of t.now).points }
-    ensures { result ≡ side_of t.now w.now (outcome_if (maybe_by some (row_in row.now)) s q) }
+// A side of a test that goes on at q, by what narrowing left: whether there is a row, and the row.
+fn side(at: &Reached, q: usize, some: bool, row: &Row) -> Fits
+    requires ordered { Ordered row.now.lows row.now.highs (sizes_of (table_at at.now)).variables }
+    requires q_bound { There at.now q }
+    ensures { result ≡ side_there at.now (outcome_if (maybe_by some row.now) at.now.held q) }
 {
     if !some {
         return no_outcome();
     }
+    let all = at.all;
+    let variables = all.proposal.table.sizes.variables;
     Fits {
-        locks: held(w, q) == s,
-        flow: row_within(
-            low_ends(row),
-            high_ends(row),
-            row_lows(t, w, all_lows, q),
-            row_highs(t, w, all_highs, q),
-            number_at(t, 1),
-        ),
+        locks: all.proposal.held(q) == at.held,
+        flow: row_within(&row.ends(), &all.row(q), variables),
         write: true,
     }
 }
@@ -135,288 +96,147 @@ fn both_sides(taken: Fits, other: Fits) -> Fits
 
 // A side of a test by a comparison, by the cuts u of its variables v and x. No row is made: the target's row is compared with the point's, in which both
 // intervals are written.
-fn cut_side<'a>(
-    t: &'a [i32],
-    w: &'a [i32],
-    all_lows: &'a [i32],
-    all_highs: &'a [i32],
-    s: usize,
-    q: usize,
-    lows: &'a [i32],
-    highs: &'a [i32],
-    v: usize,
-    x: usize,
-    u: Cuts,
-) -> Fits
-    requires rows { Rows t.now w.now all_lows.now all_highs.now }
-    requires whole { Whole t.now lows.now highs.now }
-    requires q_bound { q < (sizes_of t.now).points }
+fn cut_side(at: &Reached, q: usize, v: usize, x: usize, u: Cuts) -> Fits
+    requires q_bound { There at.now q }
     requires v_bound { (v ≡ x) → (v < 16) }
     requires left_value { (taken_of u.left ≡ u.left) × (taken_of u.right ≡ u.right) }
-    ensures { result ≡ side_of t.now w.now (outcome_if (cut_row_of (own_of (row_of lows.now highs.now)) v x u) s q) }
+    ensures { result ≡ side_there at.now (outcome_if (cut_row_of (own_of (seen at.now.row)) v x u) at.now.held q) }
 {
-    let left = u.left;
-    let right = u.right;
-    let last = met_if(v == x, left, right);
-    let Interval::Between(low, high) = left else {
+    let last = met_if(v == x, u.left, u.right);
+    let Some(left) = u.left else {
         return no_outcome();
     };
-    let Interval::Between(last_low, last_high) = last else {
+    let Some(last) = last else {
         return no_outcome();
     };
+    let all = at.all;
+    let variables = all.proposal.table.sizes.variables;
     Fits {
-        locks: held(w, q) == s,
-        flow: written_within(
-            lows,
-            highs,
-            v,
-            low,
-            high,
-            x,
-            last_low,
-            last_high,
-            row_lows(t, w, all_lows, q),
-            row_highs(t, w, all_highs, q),
-            number_at(t, 1),
-        ),
+        locks: all.proposal.held(q) == at.held,
+        flow: written_within(&at.row, v, left, x, last, &all.row(q), variables),
         write: true,
     }
 }
 
 // A test by a comparison of the nodes a and b, going on at y or at n.
-fn compared_fits<'a, 'b>(
-    t: &'a [i32],
-    w: &'a [i32],
-    nodes: &'a [i32],
-    all_lows: &'a [i32],
-    all_highs: &'a [i32],
-    s: usize,
-    lows: &'a [i32],
-    highs: &'a [i32],
+fn compared_fits(
+    at: &Reached,
     k: Comparison,
     a: usize,
     b: usize,
     y: usize,
     n: usize,
-    marks: &'b mut [u8],
+    marks: &mut [u8],
 ) -> Fits
-    requires rows { Rows t.now w.now all_lows.now all_highs.now }
-    requires whole { Whole t.now lows.now highs.now }
-    requires y_bound { (y < (sizes_of t.now).points) × (n < (sizes_of t.now).points) }
-    ensures value { result ≡ tested_of t.now w.now (compare 0 k (arith_at nodes.now a) (arith_at nodes.now b)) y n s (row_of lows.now highs.now) }
-    ensures marks_after { marks.new ≡ marked_of marks.old (cond_alarms_of (compare 0 k (arith_at nodes.now a) (arith_at nodes.now b)) (own_of (row_of lows.now highs.now))) }
+    requires { There at.now y × There at.now n }
+    ensures value { result ≡ tested_there at.now (compare 0 k (arith_at (nodes_at at.now) a) (arith_at (nodes_at at.now) b)) y n }
+    ensures marks_after { marks.new ≡ marked_of marks.old (cond_alarms_of (compare 0 k (arith_at (nodes_at at.now) a) (arith_at (nodes_at at.now) b)) (own_of (seen at.now.row))) }
 {
-    let left = value_on(nodes, a, lows, highs, marks);
-    let right = value_on(nodes, b, lows, highs, marks);
+    let all = at.all;
+    let nodes = all.proposal.table.nodes;
+    let left = value_on(nodes, a, &at.row, marks);
+    let right = value_on(nodes, b, &at.row, marks);
     let v = variable_or(nodes, a, 16);
     let x = variable_or(nodes, b, 17);
     let yes = cuts(k, true, left, right);
     let no = cuts(k, false, left, right);
-    let taken = cut_side(t, w, all_lows, all_highs, s, y, lows, highs, v, x, yes);
-    let other = cut_side(t, w, all_lows, all_highs, s, n, lows, highs, v, x, no);
-    both_sides(taken, other)
+    both_sides(cut_side(at, y, v, x, yes), cut_side(at, n, v, x, no))
 }
 
 // A test by any condition c. It is evaluated once, for its alarms and for the rows of both sides, which are made here.
-fn split_fits<'a, 'b>(
-    t: &'a [i32],
-    w: &'a [i32],
-    nodes: &'a [i32],
-    all_lows: &'a [i32],
-    all_highs: &'a [i32],
-    s: usize,
-    lows: &'a [i32],
-    highs: &'a [i32],
-    c: usize,
-    y: usize,
-    n: usize,
-    marks: &'b mut [u8],
-) -> Fits
-    requires rows { Rows t.now w.now all_lows.now all_highs.now }
-    requires whole { Whole t.now lows.now highs.now }
-    requires y_bound { (y < (sizes_of t.now).points) × (n < (sizes_of t.now).points) }
-    ensures value { result ≡ tested_of t.now w.now (cond_at nodes.now c) y n s (row_of lows.now highs.now) }
-    ensures marks_after { marks.new ≡ marked_of marks.old (cond_alarms_of (cond_at nodes.now c) (own_of (row_of lows.now highs.now))) }
+fn split_fits(at: &Reached, c: usize, y: usize, n: usize, marks: &mut [u8]) -> Fits
+    requires { There at.now y × There at.now n }
+    ensures value { result ≡ tested_there at.now (cond_at (nodes_at at.now) c) y n }
+    ensures marks_after { marks.new ≡ marked_of marks.old (cond_alarms_of (cond_at (nodes_at at.now) c) (own_of (seen at.now.row))) }
 {
-    let row = own(lows, highs);
-    let mut yes = [0i32; 32];
-    let mut no = [0i32; 32];
+    let all = at.all;
+    let row = at.row.own();
+    let mut yes = Row::default();
+    let mut no = Row::default();
+    let nodes = all.proposal.table.nodes;
     let said = sides(nodes, c, &row, marks, &mut yes, &mut no);
-    let taken = side(t, w, all_lows, all_highs, s, y, said.yes, &yes);
-    let other = side(t, w, all_lows, all_highs, s, n, said.no, &no);
-    both_sides(taken, other)
+    both_sides(side(at, y, said.yes, &yes), side(at, n, said.no, &no))
 }
 
 // A test of the condition c, going on at y or at n. The 'not' around it only turn it.
-fn test_fits<'a, 'b>(
-    t: &'a [i32],
-    w: &'a [i32],
-    nodes: &'a [i32],
-    all_lows: &'a [i32],
-    all_highs: &'a [i32],
-    p: usize,
-    s: usize,
-    lows: &'a [i32],
-    highs: &'a [i32],
-    c: usize,
-    y: usize,
-    n: usize,
-    marks: &'b mut [u8],
-) -> Fits
-    requires rows { Rows t.now w.now all_lows.now all_highs.now }
-    requires whole { Whole t.now lows.now highs.now }
-    requires nodes_value { nodes.now ≡ nodes_of t.now }
-    requires y_bound { (y < (sizes_of t.now).points) × (n < (sizes_of t.now).points) }
-    ensures value { result ≡ fits_by t.now w.now (Test c y n) p s (row_of lows.now highs.now) }
-    ensures marks_after { marks.new ≡ marked_of marks.old (alarms_by t.now (Test c y n) (row_of lows.now highs.now)) }
+fn test_fits(at: &Reached, c: usize, y: usize, n: usize, marks: &mut [u8]) -> Fits
+    requires { There at.now y × There at.now n }
+    ensures value { result ≡ fits_there at.now (Test c y n) }
+    ensures marks_after { marks.new ≡ marked_of marks.old (alarms_there at.now (Test c y n)) }
 {
+    let all = at.all;
+    let nodes = all.proposal.table.nodes;
     let under = bare(nodes, c);
     let yes = other_if(under.turned, y, n);
     let no = other_if(under.turned, n, y);
-    let shape = shape_at(nodes, under.node);
-    match shape {
-        Shape::Compare(k, a, b) => compared_fits(
-            t, w, nodes, all_lows, all_highs, s, lows, highs, k, a, b, yes, no, marks,
-        ),
-        _ => split_fits(
-            t, w, nodes, all_lows, all_highs, s, lows, highs, under.node, yes, no, marks,
-        ),
+    match shape_at(nodes, under.node) {
+        Shape::Compare(k, a, b) => compared_fits(at, k, a, b, yes, no, marks),
+        _ => split_fits(at, under.node, yes, no, marks),
     }
 }
 
 // A lock of m, going on at q.
-fn lock_fits<'a>(
-    t: &'a [i32],
-    w: &'a [i32],
-    all_lows: &'a [i32],
-    all_highs: &'a [i32],
-    p: usize,
-    s: usize,
-    lows: &'a [i32],
-    highs: &'a [i32],
-    m: usize,
-    q: usize,
-) -> Fits
-    requires rows { Rows t.now w.now all_lows.now all_highs.now }
-    requires whole { Whole t.now lows.now highs.now }
-    requires m_bound { (m < (sizes_of t.now).mutexes) × (q < (sizes_of t.now).points) × (s ≤ 4294967295) }
-    ensures { result ≡ fits_by t.now w.now (Lock m q) p s (row_of lows.now highs.now) }
+fn lock_fits(at: &Reached, m: usize, q: usize) -> Fits
+    requires { (m < (sizes_of (table_at at.now)).mutexes) × There at.now q }
+    ensures { result ≡ fits_there at.now (Lock m q) }
 {
-    if has(s, m) {
+    if has(at.held, m) {
         return no_outcome();
     }
-    let variables = number_at(t, 1);
-    let rest = number_at(t, 3) + m;
-    let rest_lows = row_lows(t, w, all_lows, rest);
-    let rest_highs = row_highs(t, w, all_highs, rest);
-    if !meets(lows, highs, rest_lows, rest_highs, variables) {
+    let all = at.all;
+    let variables = all.proposal.table.sizes.variables;
+    let rest = all.rest(m);
+    if !meets(&at.row, &rest, variables) {
         return no_outcome();
     }
     Fits {
-        locks: held(w, q) == with(s, m),
-        flow: met_within(
-            lows,
-            highs,
-            rest_lows,
-            rest_highs,
-            row_lows(t, w, all_lows, q),
-            row_highs(t, w, all_highs, q),
-            variables,
-        ),
+        locks: all.proposal.held(q) == with(at.held, m),
+        flow: met_within(&at.row, &rest, &all.row(q), variables),
         write: true,
     }
 }
 
 // An unlock of m, going on at q.
-fn unlock_fits<'a>(
-    t: &'a [i32],
-    w: &'a [i32],
-    all_lows: &'a [i32],
-    all_highs: &'a [i32],
-    p: usize,
-    s: usize,
-    lows: &'a [i32],
-    highs: &'a [i32],
-    m: usize,
-    q: usize,
-) -> Fits
-    requires rows { Rows t.now w.now all_lows.now all_highs.now }
-    requires whole { Whole t.now lows.now highs.now }
-    requires m_bound { (m < 8) × (q < (sizes_of t.now).points) }
-    ensures { result ≡ fits_by t.now w.now (Unlock m q) p s (row_of lows.now highs.now) }
+fn unlock_fits(at: &Reached, m: usize, q: usize) -> Fits
+    requires { (m < (sizes_of (table_at at.now)).mutexes) × There at.now q }
+    ensures { result ≡ fits_there at.now (Unlock m q) }
 {
-    if !has(s, m) {
+    if !has(at.held, m) {
         return no_outcome();
     }
+    let all = at.all;
+    let variables = all.proposal.table.sizes.variables;
     Fits {
-        locks: held(w, q) == without(s, m),
-        flow: row_within(
-            lows,
-            highs,
-            row_lows(t, w, all_lows, q),
-            row_highs(t, w, all_highs, q),
-            number_at(t, 1),
-        ),
+        locks: all.proposal.held(q) == without(at.held, m),
+        flow: row_within(&at.row, &all.row(q), variables),
         write: true,
     }
 }
 
-// What stands at the point p, which is reached with the held set s, picks the function that looks at it.
-fn reached_fits<'a, 'b>(
-    t: &'a [i32],
-    w: &'a [i32],
-    points: &'a [i32],
-    nodes: &'a [i32],
-    all_lows: &'a [i32],
-    all_highs: &'a [i32],
-    p: usize,
-    s: usize,
-    marks: &'b mut [u8],
-) -> Fits
-    requires rows { Rows t.now w.now all_lows.now all_highs.now }
-    requires points_value { points.now ≡ points_of t.now }
-    requires nodes_value { nodes.now ≡ nodes_of t.now }
-    requires p_bound { (p < (sizes_of t.now).points) × (s ≤ 4294967295) }
-    ensures value { result ≡ fits_by t.now w.now (point_of (points_of t.now) p) p s (row_at t.now w.now p) }
-    ensures marks_after { marks.new ≡ marked_of marks.old (alarms_by t.now (point_of (points_of t.now) p) (row_at t.now w.now p)) }
+// What stands at the point picks the function that looks at it.
+fn reached_fits(at: &Reached, marks: &mut [u8]) -> Fits
+    ensures value { result ≡ fits_there at.now (point_of (points_of (table_at at.now)) at.now.point) }
+    ensures marks_after { marks.new ≡ marked_of marks.old (alarms_there at.now (point_of (points_of (table_at at.now)) at.now.point)) }
 {
-    let lows = row_lows(t, w, all_lows, p);
-    let highs = row_highs(t, w, all_highs, p);
-    let x = point_at(points, p);
-    match x {
+    let all = at.all;
+    match point_at(all.proposal.table.points, at.point) {
         Point::End => no_outcome(),
-        Point::Assign(v, e, q) => assign_fits(
-            t, w, nodes, all_lows, all_highs, p, s, lows, highs, v, e, q, marks,
-        ),
-        Point::Test(c, y, n) => test_fits(
-            t, w, nodes, all_lows, all_highs, p, s, lows, highs, c, y, n, marks,
-        ),
-        Point::Lock(m, q) => lock_fits(t, w, all_lows, all_highs, p, s, lows, highs, m, q),
-        Point::Unlock(m, q) => unlock_fits(t, w, all_lows, all_highs, p, s, lows, highs, m, q),
+        Point::Assign(v, e, q) => assign_fits(at, v, e, q, marks),
+        Point::Test(c, y, n) => test_fits(at, c, y, n, marks),
+        Point::Lock(m, q) => lock_fits(at, m, q),
+        Point::Unlock(m, q) => unlock_fits(at, m, q),
     }
 }
 
 // Rules 12, 13 and 14 at the point p; its alarms are marked if it is reached.
-pub(crate) fn point_fits<'a, 'b>(
-    t: &'a [i32],
-    w: &'a [i32],
-    points: &'a [i32],
-    nodes: &'a [i32],
-    all_lows: &'a [i32],
-    all_highs: &'a [i32],
-    p: usize,
-    marks: &'b mut [u8],
-) -> Fits
-    requires rows { Rows t.now w.now all_lows.now all_highs.now }
-    requires points_value { points.now ≡ points_of t.now }
-    requires nodes_value { nodes.now ≡ nodes_of t.now }
-    requires p_bound { p < (sizes_of t.now).points }
-    ensures value { result ≡ fits_at t.now w.now p }
-    ensures marks_after { marks.new ≡ marked_of marks.old (alarms_at t.now w.now p) }
+pub(crate) fn point_fits(all: &Checked, p: usize, marks: &mut [u8]) -> Fits
+    requires { p < (sizes_of all.now.proposal.table.words.now).points }
+    ensures value { result ≡ fits_at all.now.proposal.table.words.now all.now.proposal.words.now p }
+    ensures marks_after { marks.new ≡ marked_of marks.old (alarms_at all.now.proposal.table.words.now all.now.proposal.words.now p) }
 {
-    let s = held(w, p);
+    let s = all.proposal.held(p);
     if !is_reached(s) {
         return no_outcome();
     }
-    reached_fits(t, w, points, nodes, all_lows, all_highs, p, s, marks)
+    reached_fits(&Reached::at(all, p, s), marks)
 }

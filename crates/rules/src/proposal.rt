@@ -1,51 +1,69 @@
-// The parts of a proposal. A row is two lent slices, parts of the low ends and of the high ends.
-ghost use Rattle.std.specs.Prelude.{◌≡◌, not, ◌+◌, ◌*◌, ◌<◌, ◌≤◌, eqb, length};
-ghost use Rattle.words.specs.Words.{word_of, number_of, number_at, part_of};
+// A proposal that fits its table: refusals 7 and 8 passed, and its parts are cut once. A row is two lent slices, parts of the low ends and of the high ends.
+#![tactic(auto, unfolding(crate::specs::Examine::layout_stage, crate::specs::Proposal::entries_of, crate::specs::Proposal::entry_high, crate::specs::Proposal::entry_low, crate::specs::Proposal::head_of, crate::specs::Proposal::heads_from, crate::specs::Proposal::held_of, crate::specs::Proposal::held_word_of, crate::specs::Proposal::intervals_of, crate::specs::Proposal::lows_from, crate::specs::Proposal::proposal_length, crate::specs::Proposal::row_at, words::specs::First::unless, words::specs::Stages::refuse, words::specs::Stages::stage_of))]
+
+ghost use Rattle.std.specs.Prelude.{◌≡◌, not, ◌*◌, ◌<◌, ◌≤◌, eqb, length, IfOk};
+ghost use Rattle.words.specs.Words.{word_of, number_of};
+ghost use Rattle.words.specs.Stages.{passed, stage_of};
 ghost use Rattle.interval.specs.Interval.{from_to};
-ghost use Rattle.rules.specs.Proposal.{entries_of, intervals_of, heads_from, lows_from, held_of, heads_of, head_of, lows_of, highs_of, row_at, entries_at, entry_low, entry_high};
-ghost use Rattle.rules.specs.Ready.{Limits, Bounded};
+ghost use Rattle.table.specs.Layout.{sizes_of};
+ghost use Rattle.analysis.specs.Rows.{seen};
+ghost use Rattle.rules.specs.Proposal.{rows_of, heads_from, lows_from, proposal_length, held_of, head_of, row_at, entry_low, entry_high};
+ghost use Rattle.rules.specs.Parts.{Few, Parts};
+ghost use Rattle.rules.specs.Examine.{whole_of, layout_stage};
 
-use analysis::rows::range;
+use crate::Scope;
+use crate::range::first_size;
+use analysis::Ends;
 use interval::Interval;
-use table::layout::sizes;
-use words::{number, number_at, part, word};
+use table::Table;
+use words::{Places, Refusal, Rule, number, number_at, part, refuse, word};
 
-pub(crate) fn entries(w: &[i32]) -> usize
-    ensures value { result ≡ entries_of w.now }
-    ensures upper_bound { result ≤ 4294967295 }
-{
-    number_at(w, 3)
+// The words of a proposal for a table, how many entries there are, their heads, three words each, the ends of all rows and entries, and those of the
+// entries alone.
+#[derive(Clone, Copy)]
+pub(crate) struct Proposal<'a> {
+    pub(crate) table: Table<'a>,
+    pub(crate) words: &'a [i32],
+    pub(crate) entries: usize,
+    pub(crate) heads: &'a [i32],
+    pub(crate) rows: Ends<'a>,
+    pub(crate) spans: Ends<'a>,
+    ghost sized: { layout_stage table.words.now words.now ≡ passed },
+    ghost few: { Few table.sizes entries },
+    ghost parts: { Parts table.words.now words.now entries heads.now rows.lows.now rows.highs.now spans.lows.now spans.highs.now },
 }
 
-// The held set of the point p, or 4294967295 where it is never reached.
-pub(crate) fn held(w: &[i32], p: usize) -> usize
-    requires { p ≤ 4294967295 }
-    ensures value { result ≡ held_of w.now p }
-    ensures upper_bound { result ≤ 4294967295 }
+// How many intervals the rows have.
+fn row_intervals(table: &Table) -> usize
+    ensures value { result ≡ rows_of table.now.words.now * (sizes_of table.now.words.now).variables }
+    ensures upper_bound { result ≤ 4224 }
 {
-    number(word(w, 4 + p))
+    let s = table.sizes;
+    (s.points + s.mutexes) * s.variables
 }
 
-pub(crate) fn is_reached(s: usize) -> bool
-    ensures { result ≡ not (eqb s 4294967295) }
+// The length that the sizes call for.
+fn length_for(table: &Table, words: &[i32]) -> usize
+    ensures { result ≡ proposal_length table.now.words.now words.now }
 {
-    s != 4294967295
+    let entries = number_at(words, 3);
+    4 + table.sizes.points + 3 * entries + 2 * (row_intervals(table) + entries)
 }
 
-pub(crate) fn heads_from(t: &[i32]) -> usize
-    ensures value { result ≡ heads_from t.now }
-    ensures upper_bound { result ≤ 4294967299 }
+// 7 and 8.
+fn layout(table: &Table, words: &[i32]) -> Result<(), Refusal>
+    ensures { result ≡ layout_stage table.now.words.now words.now }
 {
-    4 + number_at(t, 3)
+    let n = words.len();
+    refuse(Rule::Reach, (n < 4).then_some(n))?;
+    refuse(Rule::Match, first_size(table, words))?;
+    refuse(Rule::Reach, (n != length_for(table, words)).then_some(n))
 }
 
-// The heads of the entries, three words each.
-pub(crate) fn heads<'a>(t: &'a [i32], w: &'a [i32]) -> &'a [i32]
-    ensures { result.now ≡ heads_of t.now w.now }
+pub(crate) fn is_reached(held: usize) -> bool
+    ensures { result ≡ not (eqb held 4294967295) }
 {
-    let from = heads_from(t);
-    let count = 3 * entries(w);
-    part(w, from, count)
+    held != 4294967295
 }
 
 // The word at an index that is one.
@@ -64,110 +82,101 @@ pub(crate) fn natural(z: i32) -> usize
     z as usize
 }
 
-// The word k of the head of entry i: task, held set, variable.
-pub(crate) fn head_in(heads: &[i32], i: usize, k: usize) -> usize
-    requires { (i ≤ 4294967295) × (k ≤ 2) }
-    ensures value { result ≡ number_at heads.now (3 * i + k) }
-    ensures upper_bound { result ≤ 4294967295 }
+fn places(from: usize, to: usize) -> Places
+    ensures { result ≡ record { from = from; to = to } }
 {
-    number_at(heads, 3 * i + k)
+    Places { from, to }
 }
 
-// The same, of the heads of the proposal w.
-pub(crate) fn head<'a>(t: &'a [i32], w: &'a [i32], heads: &'a [i32], i: usize, k: usize) -> usize
-    requires heads_value { heads.now ≡ heads_of t.now w.now }
-    requires i_bound { (i ≤ 4294967295) × (k ≤ 2) }
-    ensures value { result ≡ head_of t.now w.now i k }
-    ensures upper_bound { result ≤ 4294967295 }
-{
-    head_in(heads, i, k)
-}
+impl<'a> Proposal<'a> {
+    // The proposal of these words, or refusal 7 or 8.
+    pub(crate) fn read(table: Table<'a>, words: &'a [i32]) -> Result<Proposal<'a>, Refusal>
+        ensures stage { stage_of result ≡ layout_stage table.entry.words.now words.now }
+        ensures words { IfOk result (λ p. (p.table ≡ table.entry) × (p.words.now ≡ words.now)) }
+    {
+        layout(&table, words)?;
+        let entries = number_at(words, 3);
+        let heads = 4 + table.sizes.points;
+        let lows = heads + 3 * entries;
+        let first = row_intervals(&table);
+        let count = first + entries;
+        let rows = Ends {
+            lows: part(words, lows, count),
+            highs: part(words, lows + count, count),
+        };
+        Ok(Proposal {
+            table,
+            words,
+            entries,
+            heads: part(words, heads, 3 * entries),
+            rows,
+            spans: Ends {
+                lows: part(rows.lows, first, entries),
+                highs: part(rows.highs, first, entries),
+            },
+        })
+    }
 
-pub(crate) fn lows_from<'a>(t: &'a [i32], w: &'a [i32]) -> usize
-    ensures value { result ≡ lows_from t.now w.now }
-    ensures upper_bound { result ≤ 17179869184 }
-{
-    heads_from(t) + 3 * entries(w)
-}
+    // Where the heads begin.
+    pub(crate) fn heads_from(&self) -> usize
+        ensures value { result ≡ heads_from self.now.table.words.now }
+        ensures upper_bound { result ≤ 260 }
+    {
+        4 + self.table.sizes.points
+    }
 
-// How many intervals there are: those of the rows, and one for each entry.
-pub(crate) fn intervals<'a>(t: &'a [i32], w: &'a [i32]) -> usize
-    requires { Limits t.now w.now }
-    ensures value { result ≡ intervals_of t.now w.now }
-    ensures upper_bound { result ≤ 4736 }
-{
-    let s = sizes(t);
-    (s.points + s.mutexes) * s.variables + entries(w)
-}
+    // Where the low ends begin.
+    pub(crate) fn lows_from(&self) -> usize
+        ensures { result ≡ lows_from self.now.table.words.now self.now.words.now }
+    {
+        self.heads_from() + 3 * self.entries
+    }
 
-pub(crate) fn lows<'a>(t: &'a [i32], w: &'a [i32]) -> &'a [i32]
-    requires { Bounded t.now w.now }
-    ensures { result.now ≡ lows_of t.now w.now }
-{
-    let from = lows_from(t, w);
-    let count = intervals(t, w);
-    part(w, from, count)
-}
+    // The held set of the point p, or 4294967295 where it is never reached.
+    pub(crate) fn held(&self, p: usize) -> usize
+        requires { p ≤ 4294967295 }
+        ensures value { result ≡ held_of self.now.words.now p }
+        ensures upper_bound { result ≤ 4294967295 }
+    {
+        number(word(self.words, 4 + p))
+    }
 
-pub(crate) fn highs<'a>(t: &'a [i32], w: &'a [i32]) -> &'a [i32]
-    requires { Bounded t.now w.now }
-    ensures { result.now ≡ highs_of t.now w.now }
-{
-    let count = intervals(t, w);
-    let from = lows_from(t, w) + count;
-    part(w, from, count)
-}
+    // The word k of the head of entry i: task, held set, variable.
+    pub(crate) fn head(&self, i: usize, k: usize) -> usize
+        requires { (i ≤ 4294967295) × (k ≤ 2) }
+        ensures { result ≡ head_of self.now.table.words.now self.now.words.now i k }
+    {
+        number_at(self.heads, 3 * i + k)
+    }
 
-// Row k of the low or of the high ends.
-fn row_in(ends: &[i32], variables: usize, k: usize) -> &[i32]
-    requires { (variables ≤ 4294967295) × (k ≤ 4294967295) }
-    ensures { result.now ≡ part_of ends.now (k * variables) variables }
-{
-    part(ends, k * variables, variables)
-}
+    // Row k: those of the points, then the rest rows.
+    pub(crate) fn row(&self, k: usize) -> Ends<'a>
+        requires { k ≤ 4294967295 }
+        ensures { seen result ≡ row_at self.now.table.words.now self.now.words.now k }
+    {
+        let variables = self.table.sizes.variables;
+        Ends {
+            lows: part(self.rows.lows, k * variables, variables),
+            highs: part(self.rows.highs, k * variables, variables),
+        }
+    }
 
-// The low ends of row k, where all low ends are at hand.
-pub(crate) fn row_lows<'a>(t: &'a [i32], w: &'a [i32], all: &'a [i32], k: usize) -> &'a [i32]
-    requires all_value { all.now ≡ lows_of t.now w.now }
-    requires k_bound { k ≤ 4294967295 }
-    ensures { result.now ≡ (row_at t.now w.now k).lows }
-{
-    row_in(all, number_at(t, 1), k)
-}
+    // The interval of entry i.
+    pub(crate) fn span(&self, i: usize) -> Option<Interval>
+        ensures { result ≡ from_to (entry_low self.now.table.words.now self.now.words.now i) (entry_high self.now.table.words.now self.now.words.now i) }
+    {
+        self.spans.range(i)
+    }
 
-pub(crate) fn row_highs<'a>(t: &'a [i32], w: &'a [i32], all: &'a [i32], k: usize) -> &'a [i32]
-    requires all_value { all.now ≡ highs_of t.now w.now }
-    requires k_bound { k ≤ 4294967295 }
-    ensures { result.now ≡ (row_at t.now w.now k).highs }
-{
-    row_in(all, number_at(t, 1), k)
-}
-
-// The low ends of the entries.
-pub(crate) fn entry_lows<'a>(t: &'a [i32], w: &'a [i32]) -> &'a [i32]
-    requires { Bounded t.now w.now }
-    ensures { result.now ≡ (entries_at t.now w.now).lows }
-{
-    let s = sizes(t);
-    let from = (s.points + s.mutexes) * s.variables;
-    let count = entries(w);
-    part(lows(t, w), from, count)
-}
-
-pub(crate) fn entry_highs<'a>(t: &'a [i32], w: &'a [i32]) -> &'a [i32]
-    requires { Bounded t.now w.now }
-    ensures { result.now ≡ (entries_at t.now w.now).highs }
-{
-    let s = sizes(t);
-    let from = (s.points + s.mutexes) * s.variables;
-    let count = entries(w);
-    part(highs(t, w), from, count)
-}
-
-// The interval of entry i.
-pub(crate) fn entry_range<'a>(t: &'a [i32], w: &'a [i32], i: usize) -> Interval
-    requires { Bounded t.now w.now }
-    ensures { result ≡ from_to (entry_low t.now w.now i) (entry_high t.now w.now i) }
-{
-    range(entry_lows(t, w), entry_highs(t, w), i)
+    // The places of the whole table.
+    pub(crate) fn whole(&self) -> Scope
+        ensures { result ≡ whole_of self.now.table.words.now self.now.words.now }
+    {
+        let s = self.table.sizes;
+        Scope {
+            points: places(0, s.points),
+            rests: places(s.points, s.points + s.mutexes),
+            entries: places(s.points, s.points + self.entries),
+        }
+    }
 }

@@ -1,78 +1,65 @@
 // Refusals 8 and 9: the sizes of a proposal, and the range of its words.
-ghost use Rattle.std.specs.Prelude.{◌≡◌, ◌||◌, ◌+◌, ◌^◌, ◌<◌, ◌≤◌, ltb, length};
-ghost use Rattle.std.specs.Int.Signed.{le_z};
-ghost use Rattle.words.specs.Words.{word_of, number_of, number_at};
-ghost use Rattle.words.specs.First.{first_bad};
-ghost use Rattle.words.specs.declared.Found.TheVariants.{Nothing};
+ghost use Rattle.std.specs.Prelude.{◌≡◌, ◌+◌, ◌^◌, ◌<◌, ◌≤◌, length};
+ghost use Rattle.words.specs.Words.{number_at};
+ghost use Rattle.words.specs.First.{first_bad, places, first_bad_in};
 ghost use Rattle.table.specs.Layout.{sizes_of};
 ghost use Rattle.rules.specs.Proposal.{intervals_of, heads_from, lows_from};
-ghost use Rattle.rules.specs.Rules.{rule8, minus_one, rule9};
-ghost use Rattle.rules.specs.Ready.{Bounded};
+ghost use Rattle.rules.specs.Rules.{rule8, rule9};
 
-use crate::proposal::{entries, heads_from, highs, intervals, lows, lows_from, word_at};
-use table::layout::sizes;
-use words::{Found, number, number_at};
+use crate::proposal::Proposal;
+use table::Table;
+use words::{Places, first_bad, first_bad_in, number, number_at};
 
 // Refusal 8 at a word.
-fn size_ok<'a>(t: &'a [i32], w: &'a [i32], k: usize) -> bool
-    ensures { result ≡ rule8 t.now w.now k }
+#[tactic(auto, unfolding(crate::specs::Rules::rule8, crate::specs::Proposal::entries_of))]
+fn size_ok(table: &Table, words: &[i32], k: usize) -> bool
+    ensures { result ≡ rule8 table.now.words.now words.now k }
 {
-    let s = sizes(t);
+    let s = table.sizes;
     match k {
-        0 => number_at(w, 0) == s.points,
-        1 => number_at(w, 1) == s.variables,
-        2 => number_at(w, 2) == s.mutexes,
-        _ => entries(w) <= 512,
+        0 => number_at(words, 0) == s.points,
+        1 => number_at(words, 1) == s.variables,
+        2 => number_at(words, 2) == s.mutexes,
+        _ => number_at(words, 3) <= 512,
     }
 }
 
-pub(crate) fn first_size<'a>(t: &'a [i32], w: &'a [i32]) -> Found
-    ensures { result ≡ first_bad (rule8 t.now w.now) 4 }
+pub(crate) fn first_size(table: &Table, words: &[i32]) -> Option<usize>
+    ensures { result ≡ first_bad (rule8 table.now.words.now words.now) 4 }
 {
-    let mut k = 0;
-    while k < 4 {
-        if !size_ok(t, w, k) {
-            return Found::At(k);
-        }
-        k += 1;
-    }
-    Found::Nothing
+    first_bad(4, |k| size_ok(table, words, k))
 }
 
 // How many sets of the table's mutexes there are: a number is one of them where it is below.
-fn set_count(t: &[i32]) -> usize
-    requires { (sizes_of t.now).mutexes ≤ 8 }
-    ensures { result ≡ 2 ^ (sizes_of t.now).mutexes }
+#[tactic(auto, using(crate::proofs::HeldLaws::shl_is))]
+fn set_count(p: &Proposal) -> usize
+    ensures { result ≡ 2 ^ (sizes_of p.now.table.words.now).mutexes }
 {
-    let mutexes = number_at(t, 2);
-    1 << mutexes
+    1 << p.table.sizes.mutexes
 }
 
-// A held word, where there are so many sets: -1, or a set.
-fn held_ok(z: i32, sets: usize) -> bool
-    ensures { result ≡ minus_one z || ltb (number_of z) sets }
+// The held word at an index, where there are so many sets: -1, or a set.
+#[tactic(auto, using(crate::proofs::RangeLaws::held_word, crate::proofs::RangeLaws::words_length), unfolding(crate::specs::Proposal::proposal_length, crate::specs::Proposal::lows_from))]
+fn held_ok(p: &Proposal, sets: usize, i: usize) -> bool
+    requires sets_value { sets ≡ 2 ^ (sizes_of p.now.table.words.now).mutexes }
+    requires i_bounds { (4 ≤ i) × (i < heads_from p.now.table.words.now) }
+    ensures { result ≡ rule9 p.now.table.words.now p.now.words.now i }
 {
-    if z == -1 {
-        return true;
-    }
-    number(z) < sets
+    let z = p.words[i];
+    z == -1 || number(z) < sets
 }
 
 // The first held word that fails.
-fn first_held<'a>(t: &'a [i32], w: &'a [i32]) -> Found
-    requires { Bounded t.now w.now }
-    ensures { result ≡ first_bad (rule9 t.now w.now) (heads_from t.now) }
+#[tactic(auto, unfolding(crate::specs::Proposal::heads_from))]
+fn first_held(p: &Proposal) -> Option<usize>
+    ensures { result ≡ first_bad_in (rule9 p.now.table.words.now p.now.words.now) (places 4 (heads_from p.now.table.words.now)) }
 {
-    let sets = set_count(t);
-    let heads = heads_from(t);
-    let mut i = 4;
-    while i < heads {
-        if !held_ok(word_at(w, i), sets) {
-            return Found::At(i);
-        }
-        i += 1;
-    }
-    Found::Nothing
+    let sets = set_count(p);
+    let held = Places {
+        from: 4,
+        to: p.heads_from(),
+    };
+    first_bad_in(held, |i| held_ok(p, sets, i))
 }
 
 // The word at an index that is one, as a number.
@@ -80,72 +67,64 @@ fn number_in(ws: &[i32], i: usize) -> usize
     requires { i < length ws.now }
     ensures { result ≡ number_at ws.now i }
 {
-    number(word_at(ws, i))
+    number(ws[i])
 }
 
-// The first word of the entries' heads that fails, where all words before pass. A head is a task, a held set and a variable.
-fn first_head<'a>(t: &'a [i32], w: &'a [i32]) -> Found
-    requires bounded { Bounded t.now w.now }
-    requires t_value { first_bad (rule9 t.now w.now) (heads_from t.now) ≡ Nothing }
-    ensures { result ≡ first_bad (rule9 t.now w.now) (lows_from t.now w.now) }
+// The first word of the entries' heads that fails. A head is a task, a held set and a variable.
+#[tactic(auto, using(crate::proofs::RangeLaws::head_room, crate::proofs::RangeLaws::words_length), unfolding(crate::specs::Proposal::proposal_length, crate::specs::Proposal::lows_from))]
+fn first_head(p: &Proposal) -> Option<usize>
+    ensures { result ≡ first_bad_in (rule9 p.now.table.words.now p.now.words.now) (places (heads_from p.now.table.words.now) (lows_from p.now.table.words.now p.now.words.now)) }
 {
-    let tasks = number_at(t, 0);
-    let sets = set_count(t);
-    let variables = number_at(t, 1);
-    let ends = lows_from(t, w);
-    let mut i = heads_from(t);
-    while i < ends {
-        if tasks <= number_in(w, i) {
-            return Found::At(i);
+    let sizes = p.table.sizes;
+    let sets = set_count(p);
+    let from = p.heads_from();
+    for k in 0..p.entries {
+        let i = from + 3 * k;
+        if sizes.tasks <= number_in(p.words, i) {
+            return Some(i);
         }
-        if sets <= number_in(w, i + 1) {
-            return Found::At(i + 1);
+        if sets <= number_in(p.words, i + 1) {
+            return Some(i + 1);
         }
-        if variables <= number_in(w, i + 2) {
-            return Found::At(i + 2);
+        if sizes.variables <= number_in(p.words, i + 2) {
+            return Some(i + 2);
         }
-        i += 3;
     }
-    Found::Nothing
+    None
 }
 
-// An end: the low one isn't above the high one.
-fn ends_ok<'a>(lows: &'a [i32], highs: &'a [i32], k: usize) -> bool
-    requires { (k < length lows.now) × (k < length highs.now) }
-    ensures { result ≡ le_z (word_of lows.now k) (word_of highs.now k) }
+// The end at an index, where they begin at from: the low one isn't above the high one.
+#[tactic(auto, using(crate::proofs::RangeLaws::end_test, crate::proofs::CheckedLaws::lows_count, crate::proofs::CheckedLaws::highs_count))]
+fn end_ok(p: &Proposal, from: usize, i: usize) -> bool
+    requires from_value { from ≡ lows_from p.now.table.words.now p.now.words.now }
+    requires i_bounds { (from ≤ i) × (i < from + intervals_of p.now.table.words.now p.now.words.now) }
+    ensures { result ≡ rule9 p.now.table.words.now p.now.words.now i }
 {
-    word_at(lows, k) <= word_at(highs, k)
+    p.rows.lows[i - from] <= p.rows.highs[i - from]
 }
 
-// The first word that fails, where all before the ends pass: most words are ends, and each is one comparison.
-fn first_end<'a>(t: &'a [i32], w: &'a [i32]) -> Found
-    requires bounded { Bounded t.now w.now }
-    requires w_value { first_bad (rule9 t.now w.now) (lows_from t.now w.now) ≡ Nothing }
-    ensures { result ≡ first_bad (rule9 t.now w.now) (lows_from t.now w.now + intervals_of t.now w.now) }
+// The first end that fails: most words are ends, and each is one comparison.
+#[tactic(auto, using(crate::proofs::CheckedLaws::lows_count, crate::proofs::RangeLaws::ends_from))]
+fn first_end(p: &Proposal) -> Option<usize>
+    ensures { result ≡ first_bad_in (rule9 p.now.table.words.now p.now.words.now) (places (lows_from p.now.table.words.now p.now.words.now) (lows_from p.now.table.words.now p.now.words.now + intervals_of p.now.table.words.now p.now.words.now)) }
 {
-    let ends = lows_from(t, w);
-    let low = lows(t, w);
-    let high = highs(t, w);
-    let count = intervals(t, w);
-    let mut k = 0;
-    while k < count {
-        if !ends_ok(low, high, k) {
-            return Found::At(ends + k);
-        }
-        k += 1;
-    }
-    Found::Nothing
+    let from = p.lows_from();
+    let ends = Places {
+        from,
+        to: from + p.rows.lows.len(),
+    };
+    first_bad_in(ends, |i| end_ok(p, from, i))
 }
 
-pub(crate) fn first_word<'a>(t: &'a [i32], w: &'a [i32]) -> Found
-    requires { Bounded t.now w.now }
-    ensures { result ≡ first_bad (rule9 t.now w.now) (lows_from t.now w.now + intervals_of t.now w.now) }
+// Refusal 9: the held words, then the heads, then the ends.
+pub(crate) fn first_word(p: &Proposal) -> Option<usize>
+    ensures { result ≡ first_bad (rule9 p.now.table.words.now p.now.words.now) (lows_from p.now.table.words.now p.now.words.now + intervals_of p.now.table.words.now p.now.words.now) }
 {
-    if let Found::At(i) = first_held(t, w) {
-        return Found::At(i);
+    if let Some(i) = first_held(p) {
+        return Some(i);
     }
-    if let Found::At(i) = first_head(t, w) {
-        return Found::At(i);
+    if let Some(i) = first_head(p) {
+        return Some(i);
     }
-    first_end(t, w)
+    first_end(p)
 }

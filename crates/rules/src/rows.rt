@@ -1,17 +1,18 @@
 // Whether a row lies within another: as it is, with one or two intervals written, and met with a third. Refusal 9 passed: low ends aren't above
 // their high ends, so that the ends alone are compared.
 ghost use Rattle.std.specs.Prelude.{◌≡◌, true, not, ◌&&◌, ◌<◌, length, set};
+ghost use Rattle.std.specs.Int.{int_min, int_max};
 ghost use Rattle.std.specs.Int.Signed.{le_z};
 ghost use Rattle.words.specs.Words.{word_of};
 ghost use Rattle.words.specs.First.{all_below};
-ghost use Rattle.interval.specs.Integer.{min_z, max_z};
 ghost use Rattle.interval.specs.Lattice.{is_none_of, meet_of};
-ghost use Rattle.analysis.specs.Rows.{row_of, range_of, each};
+ghost use Rattle.analysis.specs.Rows.{row_of, seen, range_of, each};
 ghost use Rattle.rules.specs.Outcomes.{row_within_of};
 ghost use Rattle.rules.specs.Ready.{Ordered};
 
-use crate::proposal::word_at;
-use interval::integer::{max32, min32};
+use analysis::Ends;
+use interval::Interval;
+use words::all_below;
 
 // Whether a to b lies in lo to hi.
 pub(crate) fn is_inside(a: i32, b: i32, lo: i32, hi: i32) -> bool
@@ -27,28 +28,16 @@ fn overlap(a: i32, b: i32, c: i32, d: i32) -> bool
     (a <= d) & (c <= b)
 }
 
-// Whether each of so many intervals of a row a lies within that of a row b.
-pub(crate) fn row_within<'a>(
-    a_lows: &'a [i32],
-    a_highs: &'a [i32],
-    b_lows: &'a [i32],
-    b_highs: &'a [i32],
-    variables: usize,
-) -> bool
-    requires ordered { Ordered a_lows.now a_highs.now variables }
-    requires ordered_2 { Ordered b_lows.now b_highs.now variables }
-    ensures { result ≡ row_within_of variables (row_of a_lows.now a_highs.now) (row_of b_lows.now b_highs.now) }
+// Whether each of so many intervals of the row a lies within that of the row b.
+pub(crate) fn row_within(a: &Ends, b: &Ends, variables: usize) -> bool
+    requires ordered { Ordered a.now.lows.now a.now.highs.now variables }
+    requires ordered_2 { Ordered b.now.lows.now b.now.highs.now variables }
+    ensures { result ≡ row_within_of variables (seen a.now) (seen b.now) }
 {
-    let mut v = 0;
-    while v < variables {
-        let low = word_at(a_lows, v);
-        let high = word_at(a_highs, v);
-        if !is_inside(low, high, word_at(b_lows, v), word_at(b_highs, v)) {
-            return false;
-        }
-        v += 1;
-    }
-    true
+    all_below(
+        variables,
+        |v| is_inside(a.lows[v], a.highs[v], b.lows[v], b.highs[v]),
+    )
 }
 
 // The word at the index i, where a is written at v, and then b at x.
@@ -65,85 +54,51 @@ fn written_word(ws: &[i32], v: usize, a: i32, x: usize, b: i32, i: usize) -> i32
     ws[i]
 }
 
-// The same of the row a with low..high written at the variable at, and then last_low..last_high at last. The row isn't copied.
-pub(crate) fn written_within<'a>(
-    a_lows: &'a [i32],
-    a_highs: &'a [i32],
-    at: usize,
-    low: i32,
-    high: i32,
-    last: usize,
-    last_low: i32,
-    last_high: i32,
-    b_lows: &'a [i32],
-    b_highs: &'a [i32],
+// The same of the row a with the interval first written at the variable v, and then last at x. The row isn't copied.
+pub(crate) fn written_within(
+    a: &Ends,
+    v: usize,
+    first: Interval,
+    x: usize,
+    last: Interval,
+    b: &Ends,
     variables: usize,
 ) -> bool
-    requires ordered { Ordered a_lows.now a_highs.now variables }
-    requires high_value { (le_z low high ≡ true) × (le_z last_low last_high ≡ true) }
-    requires ordered_2 { Ordered b_lows.now b_highs.now variables }
-    ensures { result ≡ row_within_of variables (row_of (set (set a_lows.now at low) last last_low) (set (set a_highs.now at high) last last_high)) (row_of b_lows.now b_highs.now) }
+    requires ordered { Ordered a.now.lows.now a.now.highs.now variables }
+    requires in_order { (le_z first.low first.high ≡ true) × (le_z last.low last.high ≡ true) }
+    requires ordered_2 { Ordered b.now.lows.now b.now.highs.now variables }
+    ensures { result ≡ row_within_of variables (row_of (set (set a.now.lows.now v first.low) x last.low) (set (set a.now.highs.now v first.high) x last.high)) (seen b.now) }
 {
-    let mut v = 0;
-    while v < variables {
-        let a = written_word(a_lows, at, low, last, last_low, v);
-        let b = written_word(a_highs, at, high, last, last_high, v);
-        if !is_inside(a, b, word_at(b_lows, v), word_at(b_highs, v)) {
-            return false;
-        }
-        v += 1;
-    }
-    true
+    all_below(variables, |i| {
+        let low = written_word(a.lows, v, first.low, x, last.low, i);
+        let high = written_word(a.highs, v, first.high, x, last.high, i);
+        is_inside(low, high, b.lows[i], b.highs[i])
+    })
 }
 
 // Whether no interval of the row a met with the row b is empty.
-pub(crate) fn meets<'a>(
-    a_lows: &'a [i32],
-    a_highs: &'a [i32],
-    b_lows: &'a [i32],
-    b_highs: &'a [i32],
-    variables: usize,
-) -> bool
-    requires ordered { Ordered a_lows.now a_highs.now variables }
-    requires ordered_2 { Ordered b_lows.now b_highs.now variables }
-    ensures { result ≡ all_below (λ v. not (is_none_of (meet_of (range_of (row_of a_lows.now a_highs.now) v) (range_of (row_of b_lows.now b_highs.now) v)))) variables }
+pub(crate) fn meets(a: &Ends, b: &Ends, variables: usize) -> bool
+    requires ordered { Ordered a.now.lows.now a.now.highs.now variables }
+    requires ordered_2 { Ordered b.now.lows.now b.now.highs.now variables }
+    ensures { result ≡ all_below (λ v. not (is_none_of (meet_of (range_of (seen a.now) v) (range_of (seen b.now) v)))) variables }
 {
-    let mut v = 0;
-    while v < variables {
-        let low = word_at(a_lows, v);
-        let high = word_at(a_highs, v);
-        if !overlap(low, high, word_at(b_lows, v), word_at(b_highs, v)) {
-            return false;
-        }
-        v += 1;
-    }
-    true
+    all_below(
+        variables,
+        |v| overlap(a.lows[v], a.highs[v], b.lows[v], b.highs[v]),
+    )
 }
 
 // Whether the row a met with the row b lies within the row c, where they meet: there the met ends are in order too.
-pub(crate) fn met_within<'a>(
-    a_lows: &'a [i32],
-    a_highs: &'a [i32],
-    b_lows: &'a [i32],
-    b_highs: &'a [i32],
-    c_lows: &'a [i32],
-    c_highs: &'a [i32],
-    variables: usize,
-) -> bool
-    requires ordered { Ordered a_lows.now a_highs.now variables }
-    requires ordered_2 { Ordered b_lows.now b_highs.now variables }
-    requires ordered_3 { Ordered c_lows.now c_highs.now variables }
-    requires variables_value { all_below (λ v. not (is_none_of (meet_of (range_of (row_of a_lows.now a_highs.now) v) (range_of (row_of b_lows.now b_highs.now) v)))) variables ≡ true }
-    ensures { result ≡ row_within_of variables (row_of (each max_z a_lows.now b_lows.now) (each min_z a_highs.now b_highs.now)) (row_of c_lows.now c_highs.now) }
+pub(crate) fn met_within(a: &Ends, b: &Ends, c: &Ends, variables: usize) -> bool
+    requires ordered { Ordered a.now.lows.now a.now.highs.now variables }
+    requires ordered_2 { Ordered b.now.lows.now b.now.highs.now variables }
+    requires ordered_3 { Ordered c.now.lows.now c.now.highs.now variables }
+    requires variables_value { all_below (λ v. not (is_none_of (meet_of (range_of (seen a.now) v) (range_of (seen b.now) v)))) variables ≡ true }
+    ensures { result ≡ row_within_of variables (row_of (each int_max a.now.lows.now b.now.lows.now) (each int_min a.now.highs.now b.now.highs.now)) (seen c.now) }
 {
-    let mut v = 0;
-    while v < variables {
-        let low = max32(word_at(a_lows, v), word_at(b_lows, v));
-        let high = min32(word_at(a_highs, v), word_at(b_highs, v));
-        if !is_inside(low, high, word_at(c_lows, v), word_at(c_highs, v)) {
-            return false;
-        }
-        v += 1;
-    }
-    true
+    all_below(variables, |v| {
+        let low = a.lows[v].max(b.lows[v]);
+        let high = a.highs[v].min(b.highs[v]);
+        is_inside(low, high, c.lows[v], c.highs[v])
+    })
 }

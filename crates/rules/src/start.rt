@@ -1,83 +1,66 @@
 // Refusal 11: what holds at the start.
-ghost use Rattle.std.specs.Prelude.{◌≡◌, ◌≤◌, length};
+ghost use Rattle.std.specs.Prelude.{◌≡◌, ◌&&◌, ◌<◌, ◌≤◌, eqb, length};
+ghost use Rattle.words.specs.First.{places, first_bad_in};
 ghost use Rattle.table.specs.Layout.{sizes_of};
-ghost use Rattle.table.specs.Passes.{Passes};
-ghost use Rattle.analysis.specs.Rows.{row_of};
-ghost use Rattle.rules.specs.Proposal.{rows_of};
+ghost use Rattle.analysis.specs.Rows.{seen};
+ghost use Rattle.rules.specs.Proposal.{rows_of, held_of, row_at};
 ghost use Rattle.rules.specs.Rules.{holds_start, rule11};
-ghost use Rattle.rules.specs.Ready.{Bounded};
-ghost use Rattle.rules.specs.Examine.{places, first_bad_in};
 
-use crate::Places;
-use crate::proposal::{held, highs, lows, row_highs, row_lows, word_at};
+use crate::proposal::Proposal;
 use crate::rows::is_inside;
-use table::layout::{shares, starts};
-use words::{Found, number_at};
+use analysis::Ends;
+use table::Table;
+use words::{Places, all_below, first_bad_in, number_at};
 
 // Whether the starting values lie within a row: each is compared with both ends.
-fn holds_start<'a>(t: &'a [i32], lows: &'a [i32], highs: &'a [i32]) -> bool
-    requires passes { Passes t.now }
-    requires t_in_bounds { ((sizes_of t.now).variables ≤ length lows.now) × ((sizes_of t.now).variables ≤ length highs.now) }
-    ensures { result ≡ holds_start t.now (row_of lows.now highs.now) }
+#[tactic(auto, using(crate::proofs::StartLaws::starts_count))]
+fn holds_start(table: &Table, row: &Ends) -> bool
+    requires { ((sizes_of table.now.words.now).variables ≤ length row.now.lows.now) × ((sizes_of table.now.words.now).variables ≤ length row.now.highs.now) }
+    ensures { result ≡ holds_start table.now.words.now (seen row.now) }
 {
-    let values = starts(t);
-    let variables = number_at(t, 1);
-    let mut v = 0;
-    while v < variables {
-        let z = word_at(values, v);
-        if !is_inside(z, z, word_at(lows, v), word_at(highs, v)) {
-            return false;
-        }
-        v += 1;
-    }
-    true
+    all_below(
+        table.sizes.variables,
+        |v| is_inside(table.starts[v], table.starts[v], row.lows[v], row.highs[v]),
+    )
 }
 
-// The first points of the tasks, each past the points of the tasks before: no mutex is held there, and the starting values lie within the row. Any
-// other point passes, so none is looked at.
-pub(crate) fn first_start_point<'a>(t: &'a [i32], w: &'a [i32]) -> Found
-    requires passes { Passes t.now }
-    requires bounded { Bounded t.now w.now }
-    ensures { result ≡ first_bad_in (rule11 t.now w.now) (places 0 (sizes_of t.now).points) }
+// Whether they lie within row k.
+fn row_starts(p: &Proposal, k: usize) -> bool
+    requires { k < rows_of p.now.table.words.now }
+    ensures { result ≡ holds_start p.now.table.words.now (row_at p.now.table.words.now p.now.words.now k) }
 {
-    let all_lows = lows(t, w);
-    let all_highs = highs(t, w);
-    let of = shares(t);
-    let tasks = number_at(t, 0);
-    let mut p = 0;
-    let mut u = 0;
-    while u < tasks {
-        if held(w, p) != 0 {
-            return Found::At(p);
+    holds_start(&p.table, &p.row(k))
+}
+
+// Whether a task can start at the point first: no mutex is held there, and the starting values lie within the row.
+fn point_starts(p: &Proposal, first: usize) -> bool
+    requires { first < (sizes_of p.now.table.words.now).points }
+    ensures { result ≡ eqb (held_of p.now.words.now first) 0 && holds_start p.now.table.words.now (row_at p.now.table.words.now p.now.words.now first) }
+{
+    p.held(first) == 0 && row_starts(p, first)
+}
+
+// The first points of the tasks, each past the points of the tasks before. Any other point passes, so none is looked at.
+#[tactic(auto, using(crate::proofs::StartLaws::start_below))]
+pub(crate) fn first_start_point(p: &Proposal) -> Option<usize>
+    ensures { result ≡ first_bad_in (rule11 p.now.table.words.now p.now.words.now) (places 0 (sizes_of p.now.table.words.now).points) }
+{
+    let table = &p.table;
+    let mut first = 0;
+    for u in 0..table.sizes.tasks {
+        if !point_starts(p, first) {
+            return Some(first);
         }
-        let low = row_lows(t, w, all_lows, p);
-        let high = row_highs(t, w, all_highs, p);
-        if !holds_start(t, low, high) {
-            return Found::At(p);
-        }
-        p += number_at(of, u);
-        u += 1;
+        first += number_at(table.shares, u);
     }
-    Found::Nothing
+    None
 }
 
 // The rest rows of a range of places, which are points + mutex.
-pub(crate) fn first_start_rest<'a>(t: &'a [i32], w: &'a [i32], r: Places) -> Found
-    requires passes { Passes t.now }
-    requires bounded { Bounded t.now w.now }
-    requires t_bound { ((sizes_of t.now).points ≤ r.from) × (r.from ≤ r.to) × (r.to ≤ rows_of t.now) }
-    ensures { result ≡ first_bad_in (rule11 t.now w.now) r }
+#[tactic(auto, using(crate::proofs::StartLaws::start_at_rest))]
+pub(crate) fn first_start_rest(p: &Proposal, r: Places) -> Option<usize>
+    requires { ((sizes_of p.now.table.words.now).points ≤ r.from) × (r.to ≤ rows_of p.now.table.words.now) }
+    ensures { result ≡ first_bad_in (rule11 p.now.table.words.now p.now.words.now) r }
 {
-    let all_lows = lows(t, w);
-    let all_highs = highs(t, w);
-    let mut place = r.from;
-    while place < r.to {
-        let low = row_lows(t, w, all_lows, place);
-        let high = row_highs(t, w, all_highs, place);
-        if !holds_start(t, low, high) {
-            return Found::At(place);
-        }
-        place += 1;
-    }
-    Found::Nothing
+    first_bad_in(r, |place| row_starts(p, place))
 }

@@ -15,54 +15,50 @@ use Rattle.words.specs.Words.{number_of}
 use Rattle.interval.specs.Arithmetic.{exact, by_zero, is_word}
 use Rattle.table.specs.declared.Shape.{Shape}
 use Rattle.table.specs.declared.Shape.TheVariants.{Constant, Input, Variable, Negation, Binary, Choice, Compare, Both, Either, Not, Bad}
-use Rattle.table.specs.declared.Evaluation.{Evaluation}
-use Rattle.table.specs.declared.Evaluation.TheVariants.{Value, Error}
-use Rattle.table.specs.declared.Verity.{Verity}
-use Rattle.table.specs.declared.Verity.TheVariants.{Truth, Failure}
 use Rattle.table.specs.Layout.{four_of, four_by}
 use Rattle.table.specs.Decode.{shape_by, shape_from, shape_of}
 use Rattle.table.specs.Tree.{Arith, Cond, arith_by, cond_by, arith_f, cond_f, arith_at, cond_at}
-use Rattle.table.specs.Meaning.{value_then, value_then_tell, truth_then, truth_then_give, fit, fit_by, perform, perform_by, input_by, branch, result, truth}
+use Rattle.table.specs.Meaning.{followed_by, fit, fit_by, perform, perform_by, input_by, branch, result, truth, Evaluation, gives, stops}
 
 -- an evaluation that started at the position p ended, with an error of a kind at a node below b alone
-abbrev pub Ends : ℕ → ℕ → Evaluation → Type 0
-Ends b p (Value z q) = p ≤ q
-Ends b p (Error n k q) = (p ≤ q) × (n < b) × (k ≤ 2)
+abbrev pub Ends : ℕ → ℕ → Evaluation ℤ → Type 0
+Ends b p (gives z q) = p ≤ q
+Ends b p (stops n k q) = (p ≤ q) × (n < b) × (k ≤ 2)
 
-abbrev pub Tells : ℕ → ℕ → Verity → Type 0
-Tells b p (Truth t q) = p ≤ q
-Tells b p (Failure n k q) = (p ≤ q) × (n < b) × (k ≤ 2)
+abbrev pub Tells : ℕ → ℕ → Evaluation Bool → Type 0
+Tells b p (gives t q) = p ≤ q
+Tells b p (stops n k q) = (p ≤ q) × (n < b) × (k ≤ 2)
 
 module _ (b : ℕ) where
   -- ---- one thing after another
-  ends-from : (p q : ℕ) (r : Evaluation) → p ≤ q → Ends b q r → Ends b p r
-  ends-from p q (Value z s) l h = omega arith
-  ends-from p q (Error n k s) l h = (omega (arith, h.0), h.1, h.2)
+  ends-from : (p q : ℕ) (r : Evaluation ℤ) → p ≤ q → Ends b q r → Ends b p r
+  ends-from p q (gives z s) l h = omega arith
+  ends-from p q (stops n k s) l h = (omega (arith, h.0), h.1, h.2)
 
-  tells-from : (p q : ℕ) (r : Verity) → p ≤ q → Tells b q r → Tells b p r
-  tells-from p q (Truth t s) l h = omega arith
-  tells-from p q (Failure n k s) l h = (omega (arith, h.0), h.1, h.2)
+  tells-from : (p q : ℕ) (r : Evaluation Bool) → p ≤ q → Tells b q r → Tells b p r
+  tells-from p q (gives t s) l h = omega arith
+  tells-from p q (stops n k s) l h = (omega (arith, h.0), h.1, h.2)
 
-  value-then : (p : ℕ) (r : Evaluation) (f : ℤ → ℕ → Evaluation) → Ends b p r → ((z : ℤ) (q : ℕ) → Ends b q (f z q)) → Ends b p (value_then r f)
-  unfolding value_then
-  value-then p (Value z q) f h k = ends-from p q (f z q) h (k z q)
-  value-then p (Error n e q) f h k = h
+  value-then : (p : ℕ) (r : Evaluation ℤ) (f : ℤ → ℕ → Evaluation ℤ) → Ends b p r → ((z : ℤ) (q : ℕ) → Ends b q (f z q)) → Ends b p (followed_by r f)
+  unfolding followed_by
+  value-then p (gives z q) f h k = ends-from p q (f z q) h (k z q)
+  value-then p (stops n e q) f h k = h
 
-  value-then-tell : (p : ℕ) (r : Evaluation) (f : ℤ → ℕ → Verity) → Ends b p r → ((z : ℤ) (q : ℕ) → Tells b q (f z q)) → Tells b p (value_then_tell r f)
-  unfolding value_then_tell
-  value-then-tell p (Value z q) f h k = tells-from p q (f z q) h (k z q)
-  value-then-tell p (Error n e q) f h k = h
+  value-then-tell : (p : ℕ) (r : Evaluation ℤ) (f : ℤ → ℕ → Evaluation Bool) → Ends b p r → ((z : ℤ) (q : ℕ) → Tells b q (f z q)) → Tells b p (followed_by r f)
+  unfolding followed_by
+  value-then-tell p (gives z q) f h k = tells-from p q (f z q) h (k z q)
+  value-then-tell p (stops n e q) f h k = h
 
-  truth-then : (p : ℕ) (r : Verity) (f : Bool → ℕ → Verity) → Tells b p r → ((t : Bool) (q : ℕ) → Tells b q (f t q)) → Tells b p (truth_then r f)
-  unfolding truth_then
-  truth-then p (Truth t q) f h k = tells-from p q (f t q) h (k t q)
-  truth-then p (Failure n e q) f h k = h
+  truth-then : (p : ℕ) (r : Evaluation Bool) (f : Bool → ℕ → Evaluation Bool) → Tells b p r → ((t : Bool) (q : ℕ) → Tells b q (f t q)) → Tells b p (followed_by r f)
+  unfolding followed_by
+  truth-then p (gives t q) f h k = tells-from p q (f t q) h (k t q)
+  truth-then p (stops n e q) f h k = h
 
   truth-then-give :
-      (p : ℕ) (r : Verity) (f : Bool → ℕ → Evaluation) → Tells b p r → ((t : Bool) (q : ℕ) → Ends b q (f t q)) → Ends b p (truth_then_give r f)
-  unfolding truth_then_give
-  truth-then-give p (Truth t q) f h k = ends-from p q (f t q) h (k t q)
-  truth-then-give p (Failure n e q) f h k = h
+      (p : ℕ) (r : Evaluation Bool) (f : Bool → ℕ → Evaluation ℤ) → Tells b p r → ((t : Bool) (q : ℕ) → Ends b q (f t q)) → Ends b p (followed_by r f)
+  unfolding followed_by
+  truth-then-give p (gives t q) f h k = ends-from p q (f t q) h (k t q)
+  truth-then-give p (stops n e q) f h k = h
 
   -- ---- one node
   fit-ends : (w : Bool) (n : ℕ) (z : ℤ) (p : ℕ) → n < b → Ends b p (fit_by w n z p)
@@ -80,7 +76,7 @@ module _ (b : ℕ) where
   input-ends true l h v p = omega arith
   input-ends false l h v p = omega arith
 
-  branch-ends : (t : Bool) (f g : ℕ → Evaluation) (p : ℕ) → ((q : ℕ) → Ends b q (f q)) → ((q : ℕ) → Ends b q (g q)) → Ends b p (branch t f g p)
+  branch-ends : (t : Bool) (f g : ℕ → Evaluation ℤ) (p : ℕ) → ((q : ℕ) → Ends b q (f q)) → ((q : ℕ) → Ends b q (g q)) → Ends b p (branch t f g p)
   unfolding branch
   branch-ends true f g p h k = h p
   branch-ends false f g p h k = k p
@@ -156,8 +152,8 @@ module _ (ns vs ws : List ℤ) where
   truth-tells n p = (fuel-ends (suc n) n p).1
 
   -- of an error that the code met
-  pub error-inside : (e p : ℕ) {n k q : ℕ} {r : Evaluation} → r ≡ result (arith_at ns e) vs ws p → r ≡ Error n k q → (n < length ns / 4) × (k ≤ 2)
+  pub error-inside : (e p : ℕ) {n k q : ℕ} {r : Evaluation ℤ} → r ≡ result (arith_at ns e) vs ws p → r ≡ stops n k q → (n < length ns / 4) × (k ≤ 2)
   error-inside e p h i = let l = rw (sym h ∙ i) at (result-ends e p) in (l.1, l.2)
 
-  pub failure-inside : (c p : ℕ) {n k q : ℕ} {r : Verity} → r ≡ truth (cond_at ns c) vs ws p → r ≡ Failure n k q → (n < length ns / 4) × (k ≤ 2)
+  pub failure-inside : (c p : ℕ) {n k q : ℕ} {r : Evaluation Bool} → r ≡ truth (cond_at ns c) vs ws p → r ≡ stops n k q → (n < length ns / 4) × (k ≤ 2)
   failure-inside c p h i = let l = rw (sym h ∙ i) at (truth-tells c p) in (l.1, l.2)

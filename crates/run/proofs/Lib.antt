@@ -1,10 +1,7 @@
-pub mod CodeLaws
-pub mod EvaluationLaws
-pub mod KeptLaws
-pub mod LoadLaws
 pub mod EndLaws
-pub mod StartLaws
-pub mod SlotLaws
-pub mod StepLaws
-pub mod RunLaws
+pub mod KeptLaws
 pub mod Laws
+pub mod NodeLaws
+pub mod RunLaws
+pub mod SlotLaws
+pub mod StartLaws

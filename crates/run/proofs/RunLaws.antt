@@ -12,35 +12,32 @@ use borrow.Author.Tests.{ltb-true, ltb-false, lt-ltb, le-ltb}
 use lib.Dec.{ltb}
 use lib.IntN.{ℤ}
 use lib.ListN.{length}
-use Rattle.words.specs.declared.Stage.{Stage}
-use Rattle.words.specs.declared.Stage.TheVariants.{Passed, Broken}
 use Rattle.words.specs.Words.{number_at}
 use Rattle.table.specs.declared.Point.{Point}
 use Rattle.table.specs.declared.Point.TheVariants.{End, Assign, Test, Lock, Unlock}
-use Rattle.table.specs.declared.Evaluation.{Evaluation}
-use Rattle.table.specs.declared.Evaluation.TheVariants.{Value, Error}
-use Rattle.table.specs.declared.Verity.{Verity}
-use Rattle.table.specs.declared.Verity.TheVariants.{Truth, Failure}
 use Rattle.table.specs.Layout.{nodes_of}
 use Rattle.table.specs.Validate.{validate_of}
 use Rattle.run.specs.declared.State.{State}
 use Rattle.run.specs.declared.Stepped.{Stepped}
 use Rattle.run.specs.State.{start_of}
 use Rattle.run.specs.Step.{stepped, assign_by, test_by, act_of, runs_of, turn_by, turn_of, step_by, step_of}
-use Rattle.run.specs.Run.{after, last_of, played_by, run_of}
+use Rattle.run.specs.Run.{after, last_of, played_by, run_of, state_by}
 use Rattle.run.proofs.EndLaws.{Ends, Tells, result-ends, truth-tells}
+use Rattle.std.specs.Prelude.{Ok, Err}
+use Rattle.words.specs.Stages.{Stage, passed, stage_of}
+use Rattle.table.specs.Meaning.{Evaluation, gives, stops}
 
 -- ---- what a task does ends no earlier than it started
-assign-from : (b p : ℕ) (r : Evaluation) (s : State) (u v q : ℕ) → Ends b p r → p ≤ (assign_by r s u v q).at
+assign-from : (b p : ℕ) (r : Evaluation ℤ) (s : State) (u v q : ℕ) → Ends b p r → p ≤ (assign_by r s u v q).at
 unfolding assign_by
-assign-from b p (Value z at) s u v q h = h
-assign-from b p (Error n k at) s u v q h = h.0
+assign-from b p (gives z at) s u v q h = h
+assign-from b p (stops n k at) s u v q h = h.0
 
-test-from : (b p : ℕ) (r : Verity) (s : State) (u y n : ℕ) → Tells b p r → p ≤ (test_by r s u y n).at
+test-from : (b p : ℕ) (r : Evaluation Bool) (s : State) (u y n : ℕ) → Tells b p r → p ≤ (test_by r s u y n).at
 unfolding test_by
-test-from b p (Truth true at) s u y n h = h
-test-from b p (Truth false at) s u y n h = h
-test-from b p (Failure e k at) s u y n h = h.0
+test-from b p (gives true at) s u y n h = h
+test-from b p (gives false at) s u y n h = h
+test-from b p (stops e k at) s u y n h = h.0
 
 module _ (t ws : List ℤ) where
   act-from : (what : Point) (s : State) (u p : ℕ) → p ≤ (act_of t ws what s u p).at
@@ -92,6 +89,12 @@ module _ (t ws : List ℤ) where
   pub finished : (n : ℕ) → length ws ≤ n → after t ws n ≡ after t ws (length ws)
   finished n h = still (length ws) all-used n h
 
+  -- once no word is left, the state is the last one
+  pub ended : (k : ℕ) → length ws ≤ (after t ws k).at → (after t ws k).state ≡ last_of t ws
+  unfolding last_of
+  ended k h =
+      ap (λ (x : Stepped). x.state) (sym (still k h (k + length ws) (omega arith)) ∙ finished (k + length ws) (omega arith))
+
 -- ---- the state s and the position at stand after some steps of the schedule
 pub record Reached (t ws : List ℤ) (s : State) (at : ℕ) : Type 0 where
   pub steps : ℕ
@@ -106,24 +109,18 @@ module _ {t ws : List ℤ} where
   unfolding after
   reached-next c e = record { steps = suc c.steps; is = ap (λ (x : Stepped). step_of t ws x.state x.at) c.is ∙ sym e }
 
-  pub reached-last : {s : State} {at : ℕ} → Reached t ws s at → length ws ≤ at → s ≡ last_of t ws
-  unfolding last_of
-  reached-last {s} {at} c h =
-      let k = c.steps in
-      let end : length ws ≤ (after t ws k).at = rw c.is h in
-      let same = sym (still t ws k end (k + length ws) (omega arith)) ∙ finished t ws (k + length ws) (omega arith) in
-      ap (λ (x : Stepped). x.state) (sym c.is ∙ same)
+pub ruleset reached = (given-uses, reached-start, reached-next, ended)
 
 -- ---- what a run gives
-played-stage : (r : Stage) (s : State) → (played_by r s).stage ≡ r
-unfolding played_by
-played-stage Passed s = refl
-played-stage (Broken rule place) s = refl
+played-stage : (r : Stage) (s : State) → stage_of (played_by r s) ≡ r
+unfolding played_by stage_of
+played-stage (Ok tt) s = refl
+played-stage (Err e) s = refl
 
-pub run-stage : (t ws : List ℤ) → (run_of t ws).stage ≡ validate_of t
+pub run-stage : (t ws : List ℤ) → stage_of (run_of t ws) ≡ validate_of t
 unfolding run_of
 run-stage t ws = played-stage (validate_of t) (last_of t ws)
 
-pub run-last : (t ws : List ℤ) → validate_of t ≡ Passed → (run_of t ws).state ≡ last_of t ws
-unfolding run_of played_by
+pub run-last : (t ws : List ℤ) → validate_of t ≡ passed → state_by (run_of t ws) ≡ last_of t ws
+unfolding run_of played_by state_by
 run-last t ws e = rw e

@@ -1,32 +1,26 @@
 -- What a run stores fits its slot, where the table passes refusals 1 to 6: a first point and a target are points of the table, and the task, the
--- variable, the mutex and the node of an error are below their numbers. And a word of a narrow slot stays what it is when it is widened.
+-- variable, the mutex and the node of an error are below their numbers.
 -- Assumes nothing.
 use Prim.Native.Nat.{ℕ, suc, ◌*◌, ◌/◌, ◌<◌, ◌≤◌}
-use mathlib.Core.Path.{◌≡◌, refl, ◌∙◌}
+use mathlib.Core.Path.{◌≡◌, refl}
 use mathlib.Core.Bool.{Bool, true, false}
 use mathlib.Core.List.{List}
 use native.Mathlib.Omega.{arith}
 use borrow.Author.Tests.{ltb-true}
-use lib.Dec.{T, leb, ltb}
+use lib.Dec.{ltb}
 use lib.IntN.{ℤ}
 use lib.ListN.{length, length-take}
-use mir.Facts.{to_z-of_z, sfits_widen}
-use mir.Syntax.{Width}
-use mir.Val.{SFits, hbits, to_z, of_z}
 use Rattle.words.specs.Words.{number_of}
-use Rattle.table.specs.declared.Point.TheVariants.{Assign, Test, Lock, Unlock}
+use Rattle.words.specs.Stages.{passed}
+use Rattle.table.specs.declared.Point.{Point}
+use Rattle.table.specs.declared.Point.TheVariants.{End, Assign, Test, Lock, Unlock}
 use Rattle.table.specs.Layout.{sizes_of, shares_of, points_of, nodes_of, four_by, four_of, first_of}
+use Rattle.table.specs.Validate.{validate_of}
 use Rattle.table.specs.Decode.{point_by, point_from, point_of}
 use Rattle.table.specs.Passes.{Passes, SameTask, FormedPoint}
+use Rattle.table.proofs.PassLaws.{passes}
 use Rattle.table.proofs.TaskLaws.{first-le}
-
--- ---- a word of w bits as one of v bits
-module _ (w v : Width) (wider : T (leb (hbits w) (hbits v))) (z : ℤ) (f : SFits w z) where
-  pub widened-fits : SFits v (to_z w (of_z w z))
-  widened-fits = rw (to_z-of_z f) (sfits_widen wider f)
-
-  pub widened_is : to_z v (of_z v (to_z w (of_z w z))) ≡ z
-  widened_is = to_z-of_z widened-fits ∙ to_z-of_z f
+use Rattle.run.specs.Kept.{Fits}
 
 -- ---- the sizes of a table's parts
 few-points : (t : List ℤ) → length (points_of t) ≤ 4 * (sizes_of t).points
@@ -57,25 +51,21 @@ module _ {t : List ℤ} (ok : Passes t) where
   target_fits : {p q : ℕ} → SameTask t p q → q < 256
   target_fits s = omega (arith, s.point, ok.points.high)
 
-  node-fits : {e : ℕ} → e < (sizes_of t).nodes → e < 1024
-  node-fits h = omega (arith, ok.nodes.high)
+  fits-formed : (p : ℕ) (what : Point) → FormedPoint t p what → Fits what
+  unfolding FormedPoint
+  fits-formed p End f = tt
+  fits-formed p (Assign v e q) f = (omega (arith, f.0, ok.variables.high), omega (arith, f.1.below, ok.nodes.high), target_fits f.2)
+  fits-formed p (Test c y n) f = (omega (arith, f.0.below, ok.nodes.high), target_fits f.1, target_fits f.2)
+  fits-formed p (Lock m q) f = (omega (arith, f.0, ok.mutexes.high), target_fits f.1)
+  fits-formed p (Unlock m q) f = (omega (arith, f.0, ok.mutexes.high), target_fits f.1)
 
-  mutex-fits : {p m q : ℕ} → (m < (sizes_of t).mutexes) × SameTask t p q → (m < 8) × (q < 256)
-  mutex-fits f = (omega (arith, f.0, ok.mutexes.high), target_fits f.1)
+-- ---- of a table that was checked
+module _ (t : List ℤ) (ok : validate_of t ≡ passed) where
+  pub task_fits : (sizes_of t).tasks ≤ 8
+  task_fits = (passes t ok).tasks.high
 
-  module _ (p : ℕ) where
-    pub assign-fits : {v e q : ℕ} → point_of (points_of t) p ≡ Assign v e q → (v < 16) × (e < 1024) × (q < 256)
-    unfolding FormedPoint
-    assign-fits e = let f = rw e at (formed-at p) in (omega (arith, f.0, ok.variables.high), node-fits f.1.below, target_fits f.2)
+  pub first_fits : (u : ℕ) → u < (sizes_of t).tasks → first_of t u < 256
+  first_fits u h = let p = passes t ok in omega (arith, first-point p u h, p.points.high)
 
-    pub test_fits : {c y n : ℕ} → point_of (points_of t) p ≡ Test c y n → (c < 1024) × (y < 256) × (n < 256)
-    unfolding FormedPoint
-    test_fits e = let f = rw e at (formed-at p) in (node-fits f.0.below, target_fits f.1, target_fits f.2)
-
-    pub lock-fits : {m q : ℕ} → point_of (points_of t) p ≡ Lock m q → (m < 8) × (q < 256)
-    unfolding FormedPoint
-    lock-fits e = mutex-fits (rw e at (formed-at p))
-
-    pub unlock-fits : {m q : ℕ} → point_of (points_of t) p ≡ Unlock m q → (m < 8) × (q < 256)
-    unfolding FormedPoint
-    unlock-fits e = mutex-fits (rw e at (formed-at p))
+  pub point_fits : (p : ℕ) (what : Point) → what ≡ point_of (points_of t) p → Fits what
+  point_fits p what e = rw e (fits-formed (passes t ok) p (point_of (points_of t) p) (formed-at (passes t ok) p))

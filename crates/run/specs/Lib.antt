@@ -1,4 +1,5 @@
 pub mod Codes
+pub mod Kept
 pub mod State
 pub mod Step
 pub mod Run

@@ -1,12 +1,11 @@
 -- A whole run: the state after n steps of a schedule, and what `run` gives (document 01, 'The run').
 -- Assumes nothing.
-use Rattle.std.specs.Prelude.{ℕ, zero, suc, List, ℤ, length}
-use Rattle.words.specs.declared.Stage.{Stage}
-use Rattle.words.specs.declared.Stage.TheVariants.{Passed, Broken}
+use Rattle.std.specs.Prelude.{ℕ, zero, suc, List, ℤ, length, Result, Ok, Err}
+use Rattle.words.specs.declared.refusal.Refusal.{Refusal}
+use Rattle.words.specs.Stages.{Stage}
 use Rattle.table.specs.Validate.{validate_of}
 use Rattle.run.specs.declared.State.{State}
 use Rattle.run.specs.declared.Stepped.{Stepped}
-use Rattle.run.specs.declared.Played.{Played}
 use Rattle.run.specs.State.{start_of, blank_of}
 use Rattle.run.specs.Step.{stepped, step_of}
 
@@ -21,9 +20,19 @@ unfoldable pub last_of : List ℤ → List ℤ → State
 last_of t ws = (after t ws (length ws)).state
 
 -- 'refuses by 1 to 6, else plays it all'
-unfoldable pub played_by : Stage → State → Played
-played_by Passed s = record { stage = Passed; state = s }
-played_by (Broken rule place) s = record { stage = Broken rule place; state = blank_of }
+unfoldable pub played_by : Stage → State → Result State Refusal
+played_by (Ok u) s = Ok s
+played_by (Err e) s = Err e
 
-unfoldable pub run_of : List ℤ → List ℤ → Played
+unfoldable pub run_of : List ℤ → List ℤ → Result State Refusal
 run_of t ws = played_by (validate_of t) (last_of t ws)
+
+-- the state that an answer tells: 'a refusal gives 0 for every other result'
+unfoldable pub state_by : Result State Refusal → State
+state_by (Ok s) = s
+state_by (Err e) = blank_of
+
+-- the state that is left where the state s was played to, unless the table was refused
+unfoldable pub left_by : Stage → State → State
+left_by (Ok u) s = s
+left_by (Err e) s = blank_of

@@ -34,11 +34,6 @@ is_number (negsuc n) u = false
 abbrev pub owns_of : State → ℕ → ℕ → Bool
 owns_of s u m = is_number (owner_in s m) u
 
--- ---- a state from its parts, in their order
-abbrev pub state_of : List ℕ → List ℤ → List ℤ → List ℤ → List ℕ → State
-state_of points values owners nodes kinds =
-    record { points = points; values = values; owners = owners; stop_nodes = nodes; stop_kinds = kinds }
-
 -- ---- one part changed
 abbrev pub with_point_of : State → ℕ → ℕ → State
 with_point_of s u q =

@@ -5,13 +5,9 @@ use Rattle.words.specs.Words.{number_at}
 use Rattle.table.specs.Layout.{sizes_of, points_of, nodes_of}
 use Rattle.table.specs.Decode.{point_of}
 use Rattle.table.specs.Tree.{arith_at, cond_at}
-use Rattle.table.specs.Meaning.{result, truth}
+use Rattle.table.specs.Meaning.{result, truth, Evaluation, gives, stops}
 use Rattle.table.specs.declared.Point.{Point}
 use Rattle.table.specs.declared.Point.TheVariants.{End, Assign, Test, Lock, Unlock}
-use Rattle.table.specs.declared.Evaluation.{Evaluation}
-use Rattle.table.specs.declared.Evaluation.TheVariants.{Value, Error}
-use Rattle.table.specs.declared.Verity.{Verity}
-use Rattle.table.specs.declared.Verity.TheVariants.{Truth, Failure}
 use Rattle.run.specs.declared.State.{State}
 use Rattle.run.specs.declared.Stepped.{Stepped}
 use Rattle.run.specs.State.{point_in, owner_in, stop_kind_in, is_free, owns_of, with_point_of, with_value_of, with_owner_of, with_stop_of}
@@ -21,15 +17,15 @@ stepped s at = record { state = s; at = at }
 
 -- ---- what task u does, by what stands at its point; `at` is the position after its own word
 -- an assignment to v by what its expression comes to, going on at q; an error 'stops that task at its point with its locks'
-unfoldable pub assign_by : Evaluation → State → ℕ → ℕ → ℕ → Stepped
-assign_by (Value z at) s u v q = stepped (with_point_of (with_value_of s v z) u q) at
-assign_by (Error n k at) s u v q = stepped (with_stop_of s u n k) at
+unfoldable pub assign_by : Evaluation ℤ → State → ℕ → ℕ → ℕ → Stepped
+assign_by (gives z at) s u v q = stepped (with_point_of (with_value_of s v z) u q) at
+assign_by (stops n k at) s u v q = stepped (with_stop_of s u n k) at
 
 -- a test, going on at y or at n
-unfoldable pub test_by : Verity → State → ℕ → ℕ → ℕ → Stepped
-test_by (Truth true at) s u y n = stepped (with_point_of s u y) at
-test_by (Truth false at) s u y n = stepped (with_point_of s u n) at
-test_by (Failure e k at) s u y n = stepped (with_stop_of s u e k) at
+unfoldable pub test_by : Evaluation Bool → State → ℕ → ℕ → ℕ → Stepped
+test_by (gives true at) s u y n = stepped (with_point_of s u y) at
+test_by (gives false at) s u y n = stepped (with_point_of s u n) at
+test_by (stops e k at) s u y n = stepped (with_stop_of s u e k) at
 
 -- a lock: the mutex is free, or 'a lock on an owned mutex (its own included) changes nothing'
 unfoldable pub lock_by : Bool → State → ℕ → ℕ → ℕ → State

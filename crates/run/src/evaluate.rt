@@ -1,350 +1,184 @@
-// The evaluation of arithmetic and of conditions from the variables' values and the schedule's words, from the position `at` on. What it comes to is
-// one number (specs/Codes). The program, which has what is read of the table, and the values are lent as arrays: these are handed on in registers,
-// where an enum and a slice go through memory.
+// The evaluation of arithmetic and of conditions from the variables' values and the schedule's words, from the position `at` on. The words of the nodes
+// and the values are lent as arrays, which are handed on in registers; a slice has a length beside.
 // The three functions at the end call each other, the node number falling.
-ghost use Rattle.std.specs.Prelude.{◌≡◌, not, ◌&&◌, List, ℕ, ◌*◌, ◌<◌, ◌≤◌, ltb, ℤ, pos, neg_ℤ, length};
-ghost use Rattle.std.specs.Int.{w32};
-ghost use Rattle.std.proofs.Common.{SFits};
+ghost use Rattle.std.specs.Prelude.{◌≡◌, ℕ, ◌<◌, ltb, pos, length};
 ghost use Rattle.interval.specs.Integer.{eq_z};
 ghost use Rattle.interval.specs.Compare.{test as test_of};
-ghost use Rattle.words.specs.Words.{word_of, number_at};
-ghost use Rattle.table.specs.declared.Verity.TheVariants.{Truth};
+ghost use Rattle.words.specs.Words.{word_of};
 ghost use Rattle.table.specs.Tree.{arith_at, cond_at};
-ghost use Rattle.table.specs.Meaning.{value_then, value_then_tell, truth_then, fit as fit_of, perform_by, perform as perform_of, input_by, result as result_of, truth};
-ghost use Rattle.table.specs.Decode.{Leaf, kind_operation, kind_comparison};
-ghost use Rattle.run.specs.Codes.{is_error, error_of, error_number, error_node, error_kind, Failed, Code, evaluation_of, verity_of, truth_number, kind_pair, nodes_in};
+ghost use Rattle.table.specs.Meaning.{gives, fit as fit_of, perform_by, perform as perform_of, input_by, result as result_of, truth};
+ghost use Rattle.run.specs.Codes.{evaluation_of, kind_pair};
 
-use interval::integer::{minus, negative, over, plus, rem, same, times, widen};
-use table::decode::both_below;
-use words::{number, word};
-
-// ---- words and errors as numbers
-
-// The error of the kind k at the node n.
-fn failed(n: usize, k: usize) -> i64
-    requires n_bound { n < 1024 }
-    requires k_bound { k ≤ 2 }
-    ensures { result ≡ error_of n k }
-{
-    4294967296 + (2 * n + k) as i64
-}
-
-pub(crate) fn is_error(z: i64) -> bool
-    ensures { result ≡ is_error z }
-{
-    4294967296 <= z
-}
-
-fn error_number(z: i64) -> usize
-    requires { Failed z }
-    ensures value { result ≡ error_number z }
-    ensures bound { result < 2048 }
-{
-    (z - 4294967297) as usize
-}
-
-pub(crate) fn error_node(z: i64) -> usize
-    requires { Failed z }
-    ensures value { result ≡ error_node z }
-    ensures bound { result < 1024 }
-{
-    error_number(z) / 2
-}
-
-pub(crate) fn error_kind(z: i64) -> usize
-    requires { Failed z }
-    ensures value { result ≡ error_kind z }
-    ensures bound { result ≤ 2 }
-{
-    1 + error_number(z) % 2
-}
-
-pub(crate) fn word_of(z: i64) -> i32
-    requires { SFits w32 z }
-    ensures { result ≡ z }
-{
-    z as i32
-}
-
-pub(crate) fn is_true(z: i64) -> bool
-    ensures { result ≡ eq_z z (pos 1) }
-{
-    z == 1
-}
-
-fn code_of(t: bool) -> i64
-    ensures { result ≡ truth_number t }
-{
-    if t { 1 } else { 0 }
-}
+use crate::stop::Stop;
+use interval::integer::{minus, negative, over, plus, rem, times};
+use interval::{Comparison, Operation};
+use table::decode::{both_below, comparison_of, node_at, operation_of};
+use words::word;
 
 // ---- one node
 
 // The exact result z of the node n where it is a word, else an overflow.
-fn fit(n: usize, z: i64) -> i64
+#[tactic(auto, using(interval::proofs::Machine::read_back), unfolding(crate::specs::Codes::evaluation_of, table::specs::Meaning::fit, table::specs::Meaning::fit_by))]
+fn fit(n: usize, z: i64) -> Result<i32, Stop>
     requires { n < 1024 }
-    ensures evaluation { (p : ℕ) → evaluation_of result p ≡ fit_of n z p }
-    ensures code { Code result }
+    ensures { (p : ℕ) → evaluation_of result p ≡ fit_of n z p }
 {
     if (-2147483648 <= z) & (z <= 2147483647) {
-        z
+        Ok(z as i32)
     } else {
-        failed(n, 1)
+        Err(Stop::overflow(n))
     }
 }
 
 // The exact result z of a division by b at the node n, or the error that b is 0.
-fn divide(n: usize, b: i32, z: i64) -> i64
+#[tactic(auto, unfolding(crate::specs::Codes::evaluation_of, table::specs::Meaning::perform_by, interval::specs::Integer::eq_z))]
+fn divide(n: usize, b: i32, z: i64) -> Result<i32, Stop>
     requires { n < 1024 }
-    ensures evaluation { (p : ℕ) → evaluation_of result p ≡ perform_by (eq_z b (pos 0)) n z p }
-    ensures code { Code result }
+    ensures { (p : ℕ) → evaluation_of result p ≡ perform_by (eq_z b (pos 0)) n z p }
 {
-    if same(b, 0) { failed(n, 2) } else { fit(n, z) }
+    if b == 0 {
+        Err(Stop::zero_divisor(n))
+    } else {
+        fit(n, z)
+    }
 }
 
-fn perform(n: usize, k: usize, a: i32, b: i32) -> i64
+#[tactic(auto, unfolding(table::specs::Meaning::perform, table::specs::Meaning::perform_by))]
+fn perform(n: usize, operation: Operation, a: i32, b: i32) -> Result<i32, Stop>
     requires { n < 1024 }
-    ensures evaluation { (p : ℕ) → evaluation_of result p ≡ perform_of n (kind_operation k) a b p }
-    ensures code { Code result }
+    ensures { (p : ℕ) → evaluation_of result p ≡ perform_of n operation a b p }
 {
-    match k {
-        4 => fit(n, plus(a, b)),
-        5 => fit(n, minus(a, b)),
-        6 => fit(n, times(a, b)),
-        7 => divide(n, b, over(a, b)),
-        _ => divide(n, b, rem(a, b)),
+    match operation {
+        Operation::Sum => fit(n, plus(a, b)),
+        Operation::Difference => fit(n, minus(a, b)),
+        Operation::Product => fit(n, times(a, b)),
+        Operation::Quotient => divide(n, b, over(a, b)),
+        Operation::Remainder => divide(n, b, rem(a, b)),
     }
 }
 
 // The next word if it lies in a..b, else a; with no word left, a.
-fn input(a: i32, b: i32, schedule: &[i32], at: &mut usize) -> i64
-    ensures evaluation { evaluation_of result at.new ≡ input_by (ltb at.old (length schedule.now)) a b (word_of schedule.now at.old) at.old }
-    ensures code { Code result }
+#[tactic(auto, unfolding(table::specs::Meaning::input_by, table::specs::Meaning::word_in))]
+fn input(a: i32, b: i32, schedule: &[i32], at: &mut usize) -> i32
+    ensures { gives result at.new ≡ input_by (ltb at.old (length schedule.now)) a b (word_of schedule.now at.old) at.old }
 {
     let p = *at;
-    if p < schedule.len() {
-        let w = schedule[p];
-        *at = p + 1;
-        if (a <= w) & (w <= b) {
-            widen(w)
-        } else {
-            widen(a)
-        }
-    } else {
-        widen(a)
+    if schedule.len() <= p {
+        return a;
     }
+    *at = p + 1;
+    let w = schedule[p];
+    if (a <= w) & (w <= b) { w } else { a }
 }
 
-fn test(k: usize, a: i32, b: i32) -> bool
-    ensures { result ≡ test_of (kind_comparison k) a b }
+#[tactic(auto, unfolding(interval::specs::Integer::eq_z))]
+fn test(comparison: Comparison, a: i32, b: i32) -> bool
+    ensures { result ≡ test_of comparison a b }
 {
-    match k {
-        16 => a < b,
-        17 => a <= b,
-        18 => same(a, b),
-        _ => !same(a, b),
+    match comparison {
+        Comparison::Less => a < b,
+        Comparison::AtMost => a <= b,
+        Comparison::Equal => a == b,
+        Comparison::NotEqual => a != b,
     }
 }
 
+// Both, or either.
+#[tactic(auto, unfolding(crate::specs::Codes::kind_pair))]
 fn pair(k: usize, x: bool, y: bool) -> bool
     ensures { result ≡ kind_pair k x y }
 {
     if k == 20 { x & y } else { x | y }
 }
 
-// ---- one node, from what its last operand came to
-
-fn negated(n: usize, x: i64) -> i64
-    requires n_bound { n < 1024 }
-    requires code { Code x }
-    ensures evaluation { (p : ℕ) → evaluation_of result p ≡ value_then (evaluation_of x p) (λ a q. fit_of n (neg_ℤ a) q) }
-    ensures code { Code result }
-{
-    if is_error(x) {
-        x
-    } else {
-        fit(n, negative(word_of(x)))
-    }
-}
-
-fn performed(n: usize, k: usize, a: i32, y: i64) -> i64
-    requires n_bound { n < 1024 }
-    requires code { Code y }
-    ensures evaluation { (p : ℕ) → evaluation_of result p ≡ value_then (evaluation_of y p) (λ b q. perform_of n (kind_operation k) a b q) }
-    ensures code { Code result }
-{
-    if is_error(y) {
-        y
-    } else {
-        perform(n, k, a, word_of(y))
-    }
-}
-
-fn compared(k: usize, a: i32, y: i64) -> i64
-    requires { Code y }
-    ensures verity { (p : ℕ) → verity_of result p ≡ value_then_tell (evaluation_of y p) (λ b q. Truth (test_of (kind_comparison k) a b) q) }
-    ensures code { Code result }
-{
-    if is_error(y) {
-        y
-    } else {
-        code_of(test(k, a, word_of(y)))
-    }
-}
-
-fn paired(k: usize, t: bool, y: i64) -> i64
-    requires { Code y }
-    ensures verity { (p : ℕ) → verity_of result p ≡ truth_then (verity_of y p) (λ u q. Truth (kind_pair k t u) q) }
-    ensures code { Code result }
-{
-    if is_error(y) {
-        y
-    } else {
-        code_of(pair(k, t, is_true(y)))
-    }
-}
-
-fn opposite(x: i64) -> i64
-    requires { Code x }
-    ensures verity { (p : ℕ) → verity_of result p ≡ truth_then (verity_of x p) (λ t q. Truth (not t) q) }
-    ensures code { Code result }
-{
-    if is_error(x) { x } else { code_of(!is_true(x)) }
-}
-
 // ---- the trees
 
-// What the node n comes to where it is a constant, a variable or no arithmetic: no child is evaluated and no word of the schedule read.
-fn leaf<'a>(program: &'a [i32; 5121], n: usize, values: &'a [i32; 16]) -> i64
-    requires program_len { length program.now ≡ 5121 }
-    requires n_bound { n < 1024 }
-    requires leaf { Leaf (number_at program.now (4 * n)) }
-    ensures evaluation { (ws : List ℤ) (p : ℕ) → evaluation_of result p ≡ result_of (arith_at (nodes_in program.now) n) values.now ws p }
-    ensures code { Code result }
-{
-    match number(program[4 * n]) {
-        0 => widen(program[4 * n + 1]),
-        2 => widen(word(values, number(program[4 * n + 1]))),
-        _ => 0,
-    }
-}
-
 // What the arithmetic node n comes to, below another node. Constants and variables, the most frequent ones, are read without a call.
-#[cycle(operand_value_verity)]
-fn operand<'a, 'b>(
-    program: &'a [i32; 5121],
+#[cycle(trees)]
+#[tactic(auto, using(crate::proofs::NodeLaws::node_results, interval::proofs::Machine::read_back), unfolding(crate::specs::Codes::evaluation_of, table::specs::Meaning::followed_by, table::specs::Meaning::branch))]
+fn operand(
+    nodes: &[i32; 4096],
     n: usize,
-    values: &'a [i32; 16],
-    schedule: &'a [i32],
-    at: &'b mut usize,
-) -> i64
-    requires program_len { length program.now ≡ 5121 }
-    requires n_bound { n < 1024 }
-    ensures evaluation { evaluation_of result at.new ≡ result_of (arith_at (nodes_in program.now) n) values.now schedule.now at.old }
-    ensures code { Code result }
+    values: &[i32; 16],
+    schedule: &[i32],
+    at: &mut usize,
+) -> Result<i32, Stop>
+    requires { n < 1024 }
+    ensures { evaluation_of result at.new ≡ result_of (arith_at nodes.now n) values.now schedule.now at.old }
 {
-    match number(program[4 * n]) {
-        0 => leaf(program, n, values),
-        2 => leaf(program, n, values),
-        _ => value(program, n, values, schedule, at),
+    let f = node_at(nodes, n);
+    match f.kind {
+        0 => Ok(f.x),
+        2 => Ok(word(values, f.a)),
+        _ => value(nodes, n, values, schedule, at),
     }
 }
 
 // What the arithmetic node n comes to. A step calls this function and not `operand`: with two callers it isn't inlined into `operand`, which stays
 // small enough to be inlined itself.
-#[cycle(operand_value_verity)]
-pub(crate) fn value<'a, 'b>(
-    program: &'a [i32; 5121],
+#[cycle(trees)]
+#[tactic(auto, using(crate::proofs::NodeLaws::node_results, interval::proofs::Machine::read_back), unfolding(crate::specs::Codes::evaluation_of, table::specs::Meaning::followed_by, table::specs::Meaning::branch))]
+pub(crate) fn value(
+    nodes: &[i32; 4096],
     n: usize,
-    values: &'a [i32; 16],
-    schedule: &'a [i32],
-    at: &'b mut usize,
-) -> i64
-    requires program_len { length program.now ≡ 5121 }
-    requires n_bound { n < 1024 }
-    ensures evaluation { evaluation_of result at.new ≡ result_of (arith_at (nodes_in program.now) n) values.now schedule.now at.old }
-    ensures code { Code result }
+    values: &[i32; 16],
+    schedule: &[i32],
+    at: &mut usize,
+) -> Result<i32, Stop>
+    requires { n < 1024 }
+    ensures { evaluation_of result at.new ≡ result_of (arith_at nodes.now n) values.now schedule.now at.old }
 {
-    let k = number(program[4 * n]);
-    let a = number(program[4 * n + 1]);
-    let b = number(program[4 * n + 2]);
-    let c = number(program[4 * n + 3]);
-    match k {
-        1 => input(program[4 * n + 1], program[4 * n + 2], schedule, at),
-        3 => if a < n {
-            negated(n, operand(program, a, values, schedule, at))
-        } else {
-            0
-        },
-        8 => if (a < n) & both_below(n, b, c) {
-            let t = verity(program, a, values, schedule, at);
-            if is_error(t) {
-                return t;
-            }
-            let taken = if is_true(t) { b } else { c };
-            operand(program, taken, values, schedule, at)
-        } else {
-            0
-        },
-        4..=9 => if both_below(n, a, b) {
-            let left = operand(program, a, values, schedule, at);
-            if is_error(left) {
-                return left;
-            }
-            performed(
-                n,
-                k,
-                word_of(left),
-                operand(program, b, values, schedule, at),
-            )
-        } else {
-            0
-        },
-        _ => leaf(program, n, values),
+    let f = node_at(nodes, n);
+    match f.kind {
+        0 => Ok(f.x),
+        1 => Ok(input(f.x, f.y, schedule, at)),
+        2 => Ok(word(values, f.a)),
+        3 if f.a < n => {
+            let x = operand(nodes, f.a, values, schedule, at)?;
+            fit(n, negative(x))
+        }
+        4..=7 | 9 if both_below(n, f.a, f.b) => {
+            let x = operand(nodes, f.a, values, schedule, at)?;
+            let y = operand(nodes, f.b, values, schedule, at)?;
+            perform(n, operation_of(f.kind), x, y)
+        }
+        8 if (f.a < n) & both_below(n, f.b, f.c) => {
+            let t = verity(nodes, f.a, values, schedule, at)?;
+            operand(nodes, if t { f.b } else { f.c }, values, schedule, at)
+        }
+        _ => Ok(0),
     }
 }
 
 // What the condition node n comes to.
-#[cycle(operand_value_verity)]
-pub(crate) fn verity<'a, 'b>(
-    program: &'a [i32; 5121],
+#[cycle(trees)]
+#[tactic(auto, using(crate::proofs::NodeLaws::node_results, interval::proofs::Machine::read_back), unfolding(crate::specs::Codes::evaluation_of, table::specs::Meaning::followed_by, table::specs::Meaning::branch))]
+pub(crate) fn verity(
+    nodes: &[i32; 4096],
     n: usize,
-    values: &'a [i32; 16],
-    schedule: &'a [i32],
-    at: &'b mut usize,
-) -> i64
-    requires program_len { length program.now ≡ 5121 }
-    requires n_bound { n < 1024 }
-    ensures verity { verity_of result at.new ≡ truth (cond_at (nodes_in program.now) n) values.now schedule.now at.old }
-    ensures code { Code result }
+    values: &[i32; 16],
+    schedule: &[i32],
+    at: &mut usize,
+) -> Result<bool, Stop>
+    requires { n < 1024 }
+    ensures { evaluation_of result at.new ≡ truth (cond_at nodes.now n) values.now schedule.now at.old }
 {
-    let k = number(program[4 * n]);
-    let a = number(program[4 * n + 1]);
-    let b = number(program[4 * n + 2]);
-    match k {
-        16..=19 => if both_below(n, a, b) {
-            let x = operand(program, a, values, schedule, at);
-            if is_error(x) {
-                return x;
-            }
-            compared(k, word_of(x), operand(program, b, values, schedule, at))
-        } else {
-            0
-        },
-        20..=21 => if both_below(n, a, b) {
-            let first = verity(program, a, values, schedule, at);
-            if is_error(first) {
-                return first;
-            }
-            paired(k, is_true(first), verity(program, b, values, schedule, at))
-        } else {
-            0
-        },
-        22 => if a < n {
-            opposite(verity(program, a, values, schedule, at))
-        } else {
-            0
-        },
-        _ => 0,
+    let f = node_at(nodes, n);
+    match f.kind {
+        16..=19 if both_below(n, f.a, f.b) => {
+            let x = operand(nodes, f.a, values, schedule, at)?;
+            let y = operand(nodes, f.b, values, schedule, at)?;
+            Ok(test(comparison_of(f.kind), x, y))
+        }
+        20..=21 if both_below(n, f.a, f.b) => {
+            let x = verity(nodes, f.a, values, schedule, at)?;
+            let y = verity(nodes, f.b, values, schedule, at)?;
+            Ok(pair(f.kind, x, y))
+        }
+        22 if f.a < n => {
+            let x = verity(nodes, f.a, values, schedule, at)?;
+            Ok(!x)
+        }
+        _ => Ok(false),
     }
 }

@@ -6,9 +6,11 @@ use mathlib.Core.Bool.{Bool, true, false}
 use mathlib.Core.List.{List, [], ◌∷◌, ◌++◌}
 use lib.IntN.{ℤ}
 use Rattle.words.proofs.Bools.{clash, and_left, and_right}
-use Rattle.analysis.specs.Rows.{Row, Maybe, none, some, Inside, Kept}
+use Rattle.analysis.specs.declared.Row.{Row}
+use Rattle.analysis.specs.Rows.{Inside, Kept}
 use Rattle.rules.specs.Outcomes.{Outcome, outcome_if, only_if}
 use Rattle.rules.specs.Rules.{all_outcomes}
+use Rattle.std.specs.Prelude.{None, Option, Some}
 
 -- o is one of the outcomes
 pub data In (o : Outcome) : List Outcome → Type 0 where
@@ -35,10 +37,10 @@ pub record Brings (l : List Outcome) (q s : ℕ) (vs : List ℤ) : Type 0 where
   pub inside : Inside vs row
 
 module _ {q s : ℕ} {vs : List ℤ} where
-  pub brings-if : (m : Maybe) → Kept vs m → Brings (outcome_if m s q) q s vs
+  pub brings-if : (m : Option Row) → Kept vs m → Brings (outcome_if m s q) q s vs
   unfolding outcome_if
-  brings-if none k = absurd k
-  brings-if (some r) k = record { row = r; one = here; inside = k }
+  brings-if None k = absurd k
+  brings-if (Some r) k = record { row = r; one = here; inside = k }
 
   pub brings-only : (b : Bool) (l : List Outcome) → b ≡ true → Brings l q s vs → Brings (only_if b l) q s vs
   unfolding only_if

@@ -8,12 +8,10 @@ use native.Mathlib.Omega.{arith}
 use lib.IntN.{ℤ}
 use Rattle.words.proofs.FirstLaws.{one-some_below}
 use Rattle.table.specs.declared.Point.TheVariants.{Assign, Test}
-use Rattle.table.specs.declared.Evaluation.TheVariants.{Error}
-use Rattle.table.specs.declared.Verity.TheVariants.{Failure}
 use Rattle.table.specs.Layout.{sizes_of, points_of, nodes_of}
 use Rattle.table.specs.Decode.{point_of}
 use Rattle.table.specs.Tree.{arith_at, cond_at}
-use Rattle.table.specs.Meaning.{result, truth}
+use Rattle.table.specs.Meaning.{result, truth, stops}
 use Rattle.analysis.specs.Rows.{own_of, Inside}
 use Rattle.analysis.specs.Alarms.{lists}
 use Rattle.analysis.specs.Laws.{IsKind}
@@ -28,10 +26,10 @@ use Rattle.run.proofs.SlotLaws.{few-nodes}
 
 -- ---- the node of an error
 module _ (t vs ws : List ℤ) (e p n k q : ℕ) where
-  arith-named : result (arith_at (nodes_of t) e) vs ws p ≡ Error n k q → n < (sizes_of t).nodes
+  arith-named : result (arith_at (nodes_of t) e) vs ws p ≡ stops n k q → n < (sizes_of t).nodes
   arith-named r = omega (arith, few-nodes t, (error-inside (nodes_of t) vs ws e p refl r).0)
 
-  cond-named : truth (cond_at (nodes_of t) e) vs ws p ≡ Failure n k q → n < (sizes_of t).nodes
+  cond-named : truth (cond_at (nodes_of t) e) vs ws p ≡ stops n k q → n < (sizes_of t).nodes
   cond-named r = omega (arith, few-nodes t, (failure-inside (nodes_of t) vs ws e p refl r).0)
 
 -- ---- the list
@@ -44,7 +42,7 @@ listed_at t w p n k h r below kind e =
 
 module _ (t w ws : List ℤ) (vs : List ℤ) (p : ℕ) (h : p < (sizes_of t).points) (r : reached_of w p ≡ true) (i : Inside vs (own_of (row_at t w p))) where
   pub error-on-list : (v e g at n k q : ℕ) → point_of (points_of t) p ≡ Assign v e g
-      → result (arith_at (nodes_of t) e) vs ws at ≡ Error n k q → on_list n k (alarm_words t w) ≡ true
+      → result (arith_at (nodes_of t) e) vs ws at ≡ stops n k q → on_list n k (alarm_words t w) ≡ true
   unfolding alarms_by
   error-on-list v e g at n k q is x =
       let listed = laws.error-listed (arith_at (nodes_of t) e) (own_of (row_at t w p)) vs ws at i n k q x in
@@ -52,7 +50,7 @@ module _ (t w ws : List ℤ) (vs : List ℤ) (p : ℕ) (h : p < (sizes_of t).poi
       (rw is listed)
 
   pub failure-on-list : (c y f at n k q : ℕ) → point_of (points_of t) p ≡ Test c y f
-      → truth (cond_at (nodes_of t) c) vs ws at ≡ Failure n k q → on_list n k (alarm_words t w) ≡ true
+      → truth (cond_at (nodes_of t) c) vs ws at ≡ stops n k q → on_list n k (alarm_words t w) ≡ true
   unfolding alarms_by
   failure-on-list c y f at n k q is x =
       let listed = laws.failure-listed (cond_at (nodes_of t) c) (own_of (row_at t w p)) vs ws at i n k q x in

@@ -14,17 +14,15 @@ use mathlib.Core.Path.{◌≡◌, sym, ap, subst, ◌∙◌}
 use mathlib.Core.Bool.{true, not}
 use mathlib.Core.List.{List}
 use native.Mathlib.Nat.{mul-le-mul_right, suc-mul}
-use native.Mathlib.Decide.{dec_lt, ℕ_discrete}
+use native.Mathlib.Decide.{dec_lt}
 use native.Mathlib.Omega.{arith}
 use lib.IntN.{ℤ, pos}
-use lib.ListN.{length, get_or, set, get_or-eq_default}
+use lib.ListN.{length, set, get_or-eq_default}
 use lib.Seq.{get_or-set_same, get_or-set_other}
 use lib.Signed.{◌≤ℤ◌, ≤ℤ_refl}
-use Rattle.interval.specs.Integer.{min_z, max_z}
-use Rattle.interval.specs.Interval.{Within, Holds}
+use Rattle.interval.specs.Interval.{Within, Holds, span}
 use Rattle.interval.specs.Lattice.{is_none_of, within_of, meet_of}
 use Rattle.interval.specs.declared.Interval.{Interval}
-use Rattle.interval.specs.declared.Interval.TheVariants.{None, Between}
 use Rattle.interval.proofs.IntegerLaws.{≤-antisym, min-above, max-below, min-is, max-is}
 use Rattle.interval.proofs.IntervalLaws.{first, from_to-holds, from_to-only}
 use Rattle.interval.proofs.LatticeLaws.{within-holds, holds-some, meet-contains}
@@ -35,12 +33,15 @@ use Rattle.words.proofs.ListLaws.{at_each}
 use Rattle.words.proofs.PartLaws.{part_length}
 use Rattle.table.specs.Layout.{sizes_of, starts_of}
 use Rattle.table.proofs.LayoutLaws.{part-within}
-use Rattle.analysis.specs.Rows.{Row, range_of, slots_of, own_of, row_if, Inside, Kept}
+use Rattle.analysis.specs.declared.Row.{Row}
+use Rattle.analysis.specs.Rows.{range_of, slots_of, own_of, row_if, Inside, Kept}
 use Rattle.analysis.proofs.RowLaws.{set_all, each-is, slots-within, slots-past}
 use Rattle.rules.specs.Proposal.{rows_of, intervals_of, lows_from, proposal_length, lows_of, highs_of, row_at}
 use Rattle.rules.specs.Outcomes.{row_within_of, meet_rows_of, assigned}
 use Rattle.rules.specs.Rules.{holds_start}
 use Rattle.run.specs.State.{values_of}
+use Rattle.std.specs.Int.{int_min, int_max}
+use Rattle.std.specs.Prelude.{None, Option, Some}
 
 -- the first sixteen words of a list that has no more
 slots-word : (ws : List ℤ) (v : ℕ) → length ws ≤ 16 → word_of (slots_of ws) v ≡ word_of ws v
@@ -69,14 +70,14 @@ own-inside r l h i = record { at = λ v. rw (slots-word r.lows v l, slots-word r
 pub write-inside : {vs : List ℤ} (r : Row) (v : ℕ) (z : ℤ) → Within (word_of r.lows v) (word_of r.highs v) z → Inside vs r → Inside (set vs v z) r
 write-inside {vs} r v z h i = record { at = set_all (λ u y. Within (word_of r.lows u) (word_of r.highs u) y) vs v z i.at h }
 
-pub assigned-keeps : {vs : List ℤ} (x : Interval) (v : ℕ) (r : Row) (z : ℤ) → v < length vs → v < length r.lows → v < length r.highs
+pub assigned-keeps : {vs : List ℤ} (x : Option Interval) (v : ℕ) (r : Row) (z : ℤ) → v < length vs → v < length r.lows → v < length r.highs
     → Holds x z → Inside vs r → Kept (set vs v z) (assigned x v r)
 unfolding assigned
 assigned-keeps None v r z n l h k i = absurd k
-assigned-keeps {vs} (Between lo hi) v r z n l h k i = record {
-  at = at_each (λ u y. Within (word_of (set r.lows v lo) u) (word_of (set r.highs v hi) u) y) vs v z (pos 0) n
-      (rw (get_or-set_same r.lows v lo (pos 0) l, get_or-set_same r.highs v hi (pos 0) h) k)
-      (λ u d. rw (get_or-set_other r.lows v u lo (pos 0) d, get_or-set_other r.highs v u hi (pos 0) d) (i.at u));
+assigned-keeps {vs} (Some e) v r z n l h k i = record {
+  at = at_each (λ u y. Within (word_of (set r.lows v e.low) u) (word_of (set r.highs v e.high) u) y) vs v z (pos 0) n
+      (rw (get_or-set_same r.lows v e.low (pos 0) l, get_or-set_same r.highs v e.high (pos 0) h) k)
+      (λ u d. rw (get_or-set_other r.lows v u e.low (pos 0) d, get_or-set_other r.highs v u e.high (pos 0) d) (i.at u));
 }
 
 pub meet_rows-keeps : {vs : List ℤ} (n : ℕ) (r s : Row) → Inside vs r → Inside vs s → Kept vs (meet_rows_of n r s)
@@ -84,8 +85,8 @@ unfolding meet_rows_of row_if
 meet_rows-keeps {vs} n r s i j =
     rw some_left (record {
       at = λ v. record {
-        low = rw (each-is max_z (max-is (≤ℤ_refl (pos 0))) r.lows s.lows v) (max-below (i.at v).low (j.at v).low);
-        high = rw (each-is min_z (min-is (≤ℤ_refl (pos 0))) r.highs s.highs v) (min-above (i.at v).high (j.at v).high);
+        low = rw (each-is int_max (max-is (≤ℤ_refl (pos 0))) r.lows s.lows v) (max-below (i.at v).low (j.at v).low);
+        high = rw (each-is int_min (min-is (≤ℤ_refl (pos 0))) r.highs s.highs v) (min-above (i.at v).high (j.at v).high);
       };
     })
   where
@@ -140,8 +141,8 @@ module _ (t w : List ℤ) (k : ℕ) where
   start-inside few e =
       row_inside (values_of t) (λ v h. start_word t v few ∙ get_or-eq_default (starts_of t) (pos 0) (starts-few t h)) (λ v l.
       let z = word_of (starts_of t) v in
-      rw (start_word t v few) (from_to-only _ _ z (within-holds (Between z z) (range_of (row_at t w k) v)
-      (all_below-each (λ v. within_of (Between (word_of (starts_of t) v) (word_of (starts_of t) v)) (range_of (row_at t w k) v)) (sizes_of t).variables e v l)
+      rw (start_word t v few) (from_to-only _ _ z (within-holds (span z z) (range_of (row_at t w k) v)
+      (all_below-each (λ v. within_of (span (word_of (starts_of t) v) (word_of (starts_of t) v)) (range_of (row_at t w k) v)) (sizes_of t).variables e v l)
       z (first (≤ℤ_refl z)))))
 
 -- in a proposal of the right length a row is as long as there are variables

@@ -17,9 +17,8 @@ use native.Mathlib.Omega.{arith}
 use borrow.Author.Tests.{ltb-true, lt-ltb, le-ltb, eqb-true, eq-eqb, ne_eqb}
 use lib.Dec.{eqb, ltb}
 use lib.IntN.{ℤ, pos, negsuc}
-use Rattle.interval.specs.Interval.{from_to, Within, Holds}
+use Rattle.interval.specs.Interval.{from_to, Within, Holds, span}
 use Rattle.interval.specs.declared.Interval.{Interval}
-use Rattle.interval.specs.declared.Interval.TheVariants.{None, Between}
 use Rattle.interval.proofs.IntervalLaws.{from_to-holds, from_to-only}
 use Rattle.interval.proofs.LatticeLaws.{within-holds}
 use Rattle.words.specs.Words.{word_of}
@@ -30,7 +29,8 @@ use Rattle.table.specs.Layout.{sizes_of, points_of, first_of, task_of}
 use Rattle.table.specs.Decode.{point_of}
 use Rattle.table.specs.Passes.{Passes}
 use Rattle.table.proofs.PassLaws.{passes}
-use Rattle.analysis.specs.Rows.{Row, Inside}
+use Rattle.analysis.specs.declared.Row.{Row}
+use Rattle.analysis.specs.Rows.{Inside}
 use Rattle.rules.specs.Held.{has_of, disjoint_of}
 use Rattle.rules.specs.Proposal.{entries_of, heads_from, lows_from, held_word_of, held_of, reached_of, head_of, row_at, rest_at, entry_low, entry_high}
 use Rattle.rules.specs.Outcomes.{Outcome, row_within_of, written_of, outcome_if, only_if, outcomes_with, outcomes_by, outcomes_of}
@@ -42,6 +42,7 @@ use Rattle.soundness.specs.Safe.{Reached}
 use Rattle.rules.proofs.SetLaws.{few-small}
 use Rattle.soundness.proofs.RowLaws.{Past, within-inside, start-inside}
 use Rattle.soundness.proofs.BringsLaws.{all_in, Brings}
+use Rattle.std.specs.Prelude.{None, Option, Some}
 
 implied : (a b : Bool) → implies a b ≡ true → a ≡ true → b ≡ true
 implied true b e p = e
@@ -71,11 +72,11 @@ pub record Filed (t w : List ℤ) (u s v : ℕ) (z : ℤ) : Type 0 where
   pub inside : Within (entry_low t w entry) (entry_high t w entry) z
 
 module _ (t w : List ℤ) (u s v : ℕ) (z : ℤ) where
-  filed-of : (x : Interval) → filed t w u s v x ≡ true → Holds x z → Filed t w u s v z
+  filed-of : (x : Option Interval) → filed t w u s v x ≡ true → Holds x z → Filed t w u s v z
   unfolding filed files
   filed-of None e i = absurd i
-  filed-of (Between lo hi) e i =
-      let k = some_below-one (files t w u s v (Between lo hi)) (entries_of w) e in
+  filed-of (Some d) e i =
+      let k = some_below-one (files t w u s v (span d.low d.high)) (entries_of w) e in
       let at_set = and_right (eqb (head_of t w k.0 0) u) _ k.2 in
       let at-variable = and_right (eqb (head_of t w k.0 1) s) _ at_set in
       let within = and_right (eqb (head_of t w k.0 2) v) _ at-variable in
@@ -85,7 +86,7 @@ module _ (t w : List ℤ) (u s v : ℕ) (z : ℤ) where
         task = eqb-true _ _ (and_left _ _ k.2);
         held = eqb-true _ _ (and_left _ _ at_set);
         variable = eqb-true _ _ (and_left _ _ at-variable);
-        inside = from_to-only (entry_low t w k.0) (entry_high t w k.0) z (within-holds (Between lo hi) _ within z i);
+        inside = from_to-only (entry_low t w k.0) (entry_high t w k.0) z (within-holds (span d.low d.high) _ within z i);
       }
 
   pub filed-takes : (r : Row) (k : Filed t w u s v z) → takes t w r k.entry ≡ true → Within (word_of r.lows v) (word_of r.highs v) z

@@ -6,13 +6,13 @@ use mathlib.Core.List.{List, []}
 use lib.Dec.{lit<}
 use lib.IntN.{ℤ, pos, negsuc}
 use lib.ListN.{length}
-use Rattle.interval.specs.Integer.{min_z, max_z, min4_z, max4_z, eq_z}
+use Rattle.interval.specs.Integer.{min4_z, max4_z, eq_z}
 use Rattle.interval.specs.Interval.{on_ends, Within}
 use Rattle.interval.specs.Lattice.{within_of, meet_of}
 use Rattle.interval.specs.Arithmetic.{hull_of, below_of, above_of, either_part_of, largest_of, remainder_low_of, remainder_high_of, remainders_of, uncut_of, computed_of, operate_of}
 use Rattle.words.specs.Words.{word_of, number_of}
 use Rattle.words.specs.First.{unless, or_else, first_bad, all_below, some_below}
-use Rattle.words.specs.Stages.{refuse, and_then}
+use Rattle.words.specs.Stages.{refuse, and_then, broken}
 use Rattle.words.specs.Tabulate.{tabulate}
 use Rattle.table.specs.Layout.{sizes_of, shares_of, starts_of, points_of, nodes_of, four_by, four_of, first_in, later_of, last_in, first_of, task_of}
 use Rattle.table.specs.Decode.{kept, shape_by, shape_from, point_by, point_from}
@@ -20,7 +20,7 @@ use Rattle.table.specs.Tree.{arith_by, arith_f, arith_at}
 use Rattle.table.specs.Formed.{node_fields_of, point_fields_of, fits_of}
 use Rattle.table.specs.Uses.{ref_of, refs_below, count_of, uses_of}
 use Rattle.table.specs.Validate.{sizes_stage, parts_stage}
-use Rattle.table.specs.Meaning.{value_then, fit_by, fit, perform_by, perform, word_in, input_by, result}
+use Rattle.table.specs.Meaning.{followed_by, fit_by, fit, perform_by, perform, word_in, input_by, result}
 use Rattle.analysis.specs.Rows.{slots_of, row_if, each}
 use Rattle.analysis.specs.Alarms.{alarm_if, told_of, lists}
 use Rattle.analysis.specs.Analysis.{value_of}
@@ -28,29 +28,31 @@ use Rattle.rules.specs.Proposal.{entries_of, intervals_of, heads_from, lows_from
 use Rattle.rules.specs.Outcomes.{row_within_of, meet_rows_of, assigned, written_of, outcome_if, only_if, outcomes_with, outcomes_by, outcomes_of}
 use Rattle.rules.specs.Rules.{all_outcomes, rule8, held_in_range, head_in_range, rule9, before_of, rule10, holds_start, start_point, rule11, locks_fit, rows_fit, rule12, rule13, files, filed, writes, rule14, takes, disturbs, undisturbed, rule15, rests, rest_point, rest_entry, rule16}
 use Rattle.rules.specs.Alarms.{alarms_by, alarms_if, alarms_at}
-use Rattle.rules.specs.Examine.{first_bad_in, layout_stage, words_stage, start_stage, outcome_stage, shared_stage, ready_of, examined_of}
-use Rattle.checker.specs.declared.Verdict.TheVariants.{Accepted, Refused}
+use Rattle.rules.specs.Examine.{layout_stage, words_stage, start_stage, outcome_stage, shared_stage, ready_of, examined_of}
+use Rattle.words.specs.First.{first_bad_in}
 use Rattle.checker.specs.AlarmList.{raised, pair_if, pairs_at, pairs_of, alarm_words}
 use Rattle.checker.specs.Check.{room_stage, stages_of, verdict_by, check_of}
 use Rattle.run.specs.State.{point_in, free_of, firsts_of, values_of, start_of}
 use Rattle.run.specs.Step.{assign_by, lock_by, unlock_by, act_of, runs_of, turn_by, turn_of, step_by, step_of}
-use Rattle.run.specs.Run.{after, last_of, played_by, run_of}
+use Rattle.run.specs.Run.{after, last_of, played_by, run_of, state_by}
 use Rattle.soundness.specs.Safe.{Safe}
 use Rattle.soundness.specs.Claim.{list_of}
 use Rattle.soundness.specs.Shown.{table, proposed, proposal, buffer, alarms, stopped, dividing, overflowing, remaining, Shown}
 use Rattle.soundness.proofs.Whole.{whole, list-is}
+use Rattle.std.specs.Prelude.{Ok}
+use Rattle.words.specs.declared.refusal.Rule.TheVariants.{Write}
 
 -- ---- by computation
-checked : (check_of table proposal (length buffer) ≡ Accepted 3)
+checked : (check_of table proposal (length buffer) ≡ Ok 3)
     × (alarm_words table proposal ≡ alarms)
-    × (check_of table (proposed (pos 3)) (length buffer) ≡ Refused 14 3)
-unfolding min_z max_z min4_z max4_z eq_z on_ends within_of meet_of hull_of below_of above_of either_part_of largest_of remainder_low_of remainder_high_of remainders_of uncut_of computed_of operate_of number_of unless or_else first_bad all_below some_below refuse and_then shares_of starts_of points_of nodes_of four_by four_of first_in later_of last_in first_of task_of kept shape_by shape_from point_by point_from arith_by arith_f arith_at node_fields_of point_fields_of fits_of ref_of refs_below count_of uses_of sizes_stage parts_stage tabulate slots_of row_if each alarm_if told_of lists value_of entries_of intervals_of heads_from lows_from proposal_length held_word_of held_of heads_of head_of lows_of highs_of row_at entries_at entry_low entry_high row_within_of meet_rows_of assigned written_of outcome_if only_if outcomes_with outcomes_by outcomes_of all_outcomes rule8 held_in_range head_in_range rule9 before_of rule10 holds_start start_point rule11 locks_fit rows_fit rule12 rule13 files filed writes rule14 takes disturbs undisturbed rule15 rests rest_point rest_entry rule16 alarms_by alarms_if alarms_at first_bad_in layout_stage words_stage start_stage outcome_stage shared_stage ready_of examined_of raised pair_if pairs_at pairs_of alarm_words room_stage stages_of verdict_by check_of
+    × (check_of table (proposed (pos 3)) (length buffer) ≡ broken Write 3)
+unfolding min4_z max4_z eq_z on_ends within_of meet_of hull_of below_of above_of either_part_of largest_of remainder_low_of remainder_high_of remainders_of uncut_of computed_of operate_of number_of unless or_else first_bad all_below some_below refuse and_then shares_of starts_of points_of nodes_of four_by four_of first_in later_of last_in first_of task_of kept shape_by shape_from point_by point_from arith_by arith_f arith_at node_fields_of point_fields_of fits_of ref_of refs_below count_of uses_of sizes_stage parts_stage tabulate slots_of row_if each alarm_if told_of lists value_of entries_of intervals_of heads_from lows_from proposal_length held_word_of held_of heads_of head_of lows_of highs_of row_at entries_at entry_low entry_high row_within_of meet_rows_of assigned written_of outcome_if only_if outcomes_with outcomes_by outcomes_of all_outcomes rule8 held_in_range head_in_range rule9 before_of rule10 holds_start start_point rule11 locks_fit rows_fit rule12 rule13 files filed writes rule14 takes disturbs undisturbed rule15 rests rest_point rest_entry rule16 alarms_by alarms_if alarms_at first_bad_in layout_stage words_stage start_stage outcome_stage shared_stage ready_of examined_of raised pair_if pairs_at pairs_of alarm_words room_stage stages_of verdict_by check_of
 checked = (refl, refl, refl)
 
-played : ((run_of table dividing).state ≡ stopped 1 7 (pos 0) (pos 0) (pos 1) (negsuc 0) (pos 6) 0 2)
-    × ((run_of table overflowing).state ≡ stopped 5 7 (pos 1) (negsuc 0) (pos 1) (negsuc 0) (pos 7) 0 1)
-    × ((run_of table remaining).state ≡ stopped 3 6 (pos 0) (negsuc 0) (pos 0) (pos 2) (negsuc 0) 2 0)
-unfolding eq_z number_of unless or_else first_bad refuse shares_of starts_of points_of nodes_of four_by four_of first_in later_of last_in first_of task_of kept shape_by shape_from point_by point_from arith_by arith_f arith_at node_fields_of point_fields_of fits_of ref_of refs_below count_of uses_of sizes_stage parts_stage tabulate value_then fit_by fit perform_by perform word_in input_by result free_of firsts_of values_of start_of assign_by lock_by unlock_by act_of runs_of turn_by turn_of step_by step_of after last_of played_by run_of
+played : (state_by (run_of table dividing) ≡ stopped 1 7 (pos 0) (pos 0) (pos 1) (negsuc 0) (pos 6) 0 2)
+    × (state_by (run_of table overflowing) ≡ stopped 5 7 (pos 1) (negsuc 0) (pos 1) (negsuc 0) (pos 7) 0 1)
+    × (state_by (run_of table remaining) ≡ stopped 3 6 (pos 0) (negsuc 0) (pos 0) (pos 2) (negsuc 0) 2 0)
+unfolding eq_z number_of unless or_else first_bad refuse shares_of starts_of points_of nodes_of four_by four_of first_in later_of last_in first_of task_of kept shape_by shape_from point_by point_from arith_by arith_f arith_at node_fields_of point_fields_of fits_of ref_of refs_below count_of uses_of sizes_stage parts_stage tabulate followed_by fit_by fit perform_by perform word_in input_by result free_of firsts_of values_of start_of assign_by lock_by unlock_by act_of runs_of turn_by turn_of step_by step_of after last_of played_by run_of state_by
 played = (refl, refl, refl)
 
 -- ---- the claim

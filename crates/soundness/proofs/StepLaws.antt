@@ -22,22 +22,18 @@ use Rattle.words.proofs.ListLaws.{at_each}
 use Rattle.words.proofs.FirstLaws.{each-all_below}
 use Rattle.table.specs.declared.Point.{Point}
 use Rattle.table.specs.declared.Point.TheVariants.{End, Assign, Test, Lock, Unlock}
-use Rattle.table.specs.declared.Evaluation.{Evaluation}
-use Rattle.table.specs.declared.Evaluation.TheVariants.{Value, Error}
-use Rattle.table.specs.declared.Verity.{Verity}
-use Rattle.table.specs.declared.Verity.TheVariants.{Truth, Failure}
 use Rattle.table.specs.Layout.{sizes_of, points_of, nodes_of}
 use Rattle.table.specs.Decode.{point_of}
 use Rattle.table.specs.Tree.{arith_at, cond_at}
-use Rattle.table.specs.Meaning.{result, truth}
+use Rattle.table.specs.Meaning.{result, truth, Evaluation, gives, stops}
 use Rattle.table.specs.Passes.{SameTask, FormedPoint}
-use Rattle.analysis.specs.Rows.{own_of, Maybe, Inside, Kept}
+use Rattle.analysis.specs.declared.Row.{Row}
+use Rattle.analysis.specs.Rows.{own_of, Inside, Kept}
 use Rattle.analysis.specs.Analysis.{narrow_of}
 use Rattle.analysis.proofs.Laws.{proved as laws}
 use Rattle.rules.specs.Held.{has_of, with_of, without_of, disjoint_of}
 use Rattle.rules.specs.Proposal.{rows_of, held_of, row_at, rest_at}
 use Rattle.rules.specs.Outcomes.{written_of, outcome_if, outcomes_with, outcomes_by, outcomes_of}
-use Rattle.rules.specs.Rules.{rests}
 use Rattle.checker.specs.Laws.{Accepts}
 use Rattle.run.specs.declared.State.{State}
 use Rattle.run.specs.State.{point_in, owner_in, owns_of, is_free, is_number}
@@ -49,6 +45,7 @@ use Rattle.soundness.proofs.BringsLaws.{Brings, brings-if, brings-only, brings-l
 use Rattle.soundness.proofs.RuleLaws.{Filed, filed-takes, Arrived, formed, held-set, held_small, reached-test, arrive, assign-filed, disturb-takes, unlock-within, entry-takes}
 use Rattle.soundness.proofs.ErrorLaws.{error-on-list, failure-on-list}
 use Rattle.soundness.proofs.Invariant.{named-owned, owned-named, owned-and-named, neither, named-same, fits-reached, fits-named, owner-same, owner-self, owner-other, free-word, free-unowned, owned-not-free, Inv, moved_to, moved, halted}
+use Rattle.std.specs.Prelude.{Option}
 
 not-both : (a b : Bool) → (a ≡ true → b ≡ true → ⊥) → not (a && b) ≡ true
 not-both true true h = absurd (h refl refl)
@@ -155,10 +152,10 @@ module _ {t w : List ℤ} {room count : ℕ} {s : State} (ok : Accepts t w room 
     own_row = let few = (formed ok).variables.high in own-inside (row_at t w p) (lows-few t w p few) (highs-few t w p few) row
 
     -- ---- assign
-    assign-keeps : (v e q at : ℕ) → instruction ≡ Assign v e q → (x : Evaluation) → result (arith_at (nodes_of t) e) s.values schedule at ≡ x
+    assign-keeps : (v e q at : ℕ) → instruction ≡ Assign v e q → (x : Evaluation ℤ) → result (arith_at (nodes_of t) e) s.values schedule at ≡ x
         → Inv t w (assign_by x s u v q).state
     unfolding FormedPoint assign_by outcomes_with outcomes_by written_of
-    assign-keeps v e q at pe (Value z g) ev =
+    assign-keeps v e q at pe (gives z g) ev =
         let fm = fields (Assign v e q) pe in
         let hv : v < (sizes_of t).variables = fm.0 in
         let hl : v < length s.values = omega (arith, (formed ok).variables.high, i.n-values) in
@@ -170,17 +167,17 @@ module _ {t w : List ℤ} {room count : ℕ} {s : State} (ok : Accepts t w room 
         let k = subst (λ (a : ℕ). Filed t w a (held_at u) v z) (i.own u hu) (assign-filed ok p v e q z stands pe holds) in
         stay-keeps q (set s.values v z) fm.2 (arrive-at (Assign v e q) pe q (held_at u) (set s.values v z) none (brings-if _ kept))
         (length-set s.values v z ∙ i.n-values) (filed-there v z k) (filed-rest v z k)
-    assign-keeps v e q at pe (Error n k g) ev =
+    assign-keeps v e q at pe (stops n k g) ev =
         halted (formed ok) i u hu n k
         (error-on-list t w schedule s.values p stands.point (reached-test ok p stands) own_row
         v e q at n k g pe ev)
 
     -- ---- test
     -- the row of a side, and that the values lie within it where that side is taken
-    abbrev side : ℕ → Bool → Maybe
+    abbrev side : ℕ → Bool → Option Row
     side c b = narrow_of (cond_at (nodes_of t) c) b (own_of (row_at t w p))
 
-    side-kept : (c at : ℕ) (b : Bool) (g : ℕ) → truth (cond_at (nodes_of t) c) s.values schedule at ≡ Truth b g → Kept s.values (side c b)
+    side-kept : (c at : ℕ) (b : Bool) (g : ℕ) → truth (cond_at (nodes_of t) c) s.values schedule at ≡ gives b g → Kept s.values (side c b)
     side-kept c at b g ev =
         laws.narrow_keeps (cond_at (nodes_of t) c) (own_of (row_at t w p)) s.values schedule at own_row b g ev
 
@@ -189,15 +186,15 @@ module _ {t w : List ℤ} {room count : ℕ} {s : State} (ok : Accepts t w room 
     side-keeps x pe q same br =
         stay-keeps q s.values same (arrive-at x pe q (held_at u) s.values past br) i.n-values (λ x hx d. i.within x hx) i.rests
 
-    test-keeps : (c y n at : ℕ) → instruction ≡ Test c y n → (x : Verity) → truth (cond_at (nodes_of t) c) s.values schedule at ≡ x
+    test-keeps : (c y n at : ℕ) → instruction ≡ Test c y n → (x : Evaluation Bool) → truth (cond_at (nodes_of t) c) s.values schedule at ≡ x
         → Inv t w (test_by x s u y n).state
     unfolding FormedPoint test_by outcomes_with outcomes_by
-    test-keeps c y n at pe (Truth true g) ev =
+    test-keeps c y n at pe (gives true g) ev =
         side-keeps (Test c y n) pe y (fields (Test c y n) pe).1 (brings-left _ _ (brings-if (side c true) (side-kept c at true g ev)))
-    test-keeps c y n at pe (Truth false g) ev =
+    test-keeps c y n at pe (gives false g) ev =
         side-keeps (Test c y n) pe n (fields (Test c y n) pe).2
         (brings-right (outcome_if (side c true) (held_at u) y) _ (brings-if (side c false) (side-kept c at false g ev)))
-    test-keeps c y n at pe (Failure e k g) ev =
+    test-keeps c y n at pe (stops e k g) ev =
         halted (formed ok) i u hu e k
         (failure-on-list t w schedule s.values p stands.point (reached-test ok p stands) own_row
         c y n at e k g pe ev)

@@ -16,7 +16,6 @@ use Rattle.table.specs.Layout.{sizes_of, first_of, task_of}
 use Rattle.analysis.specs.Rows.{Inside}
 use Rattle.rules.specs.Held.{has_of}
 use Rattle.rules.specs.Proposal.{held_word_of, held_of, row_at}
-use Rattle.checker.specs.declared.Verdict.TheVariants.{Accepted}
 use Rattle.checker.specs.AlarmList.{alarm_words}
 use Rattle.checker.specs.Check.{check_of}
 use Rattle.checker.specs.Laws.{Accepts}
@@ -24,7 +23,7 @@ use Rattle.checker.proofs.AcceptLaws.{accepts, accepted-buffer}
 use Rattle.run.specs.declared.State.{State}
 use Rattle.run.specs.State.{point_in, owner_in, is_number, owns_of, free_of, firsts_of, values_of, start_of}
 use Rattle.run.specs.Step.{runs_of, turn_by, turn_of, step_by, step_of}
-use Rattle.run.specs.Run.{after, last_of, run_of}
+use Rattle.run.specs.Run.{after, last_of, run_of, state_by}
 use Rattle.run.proofs.RunLaws.{run-stage, run-last}
 use Rattle.run.proofs.SlotLaws.{first-point}
 use Rattle.soundness.specs.Safe.{Reached, HoldsNamed, Safe}
@@ -33,6 +32,7 @@ use Rattle.rules.proofs.SetLaws.{has-none}
 use Rattle.soundness.proofs.RuleLaws.{formed, first-held, first-row, rest-start}
 use Rattle.soundness.proofs.Invariant.{neither, Inv, inv-safe}
 use Rattle.soundness.proofs.StepLaws.{act-keeps}
+use Rattle.std.specs.Prelude.{Ok}
 
 module _ {t w : List ℤ} {room count : ℕ} (ok : Accepts t w room count) where
   -- ---- the start
@@ -101,7 +101,7 @@ module _ {t w : List ℤ} {room count : ℕ} (ok : Accepts t w room count) where
     keeps (suc n) = step_keeps _ _ (keeps n)
 
 -- ---- the theorem
-module _ (t w buffer schedule : List ℤ) (count : ℕ) (e : check_of t w (length buffer) ≡ Accepted count) where
+module _ (t w buffer schedule : List ℤ) (count : ℕ) (e : check_of t w (length buffer) ≡ Ok count) where
   ok : Accepts t w (length buffer) count
   ok = accepts t w (length buffer) count e
 
@@ -115,11 +115,11 @@ module _ (t w buffer schedule : List ℤ) (count : ℕ) (e : check_of t w (lengt
       subst (λ (l : List ℤ). Safe t w l (after t schedule n).state) (sym list-is)
       (inv-safe (keeps ok schedule n))
 
-  run_is : (run_of t schedule).state ≡ (after t schedule (length schedule)).state
+  run_is : state_by (run_of t schedule) ≡ (after t schedule (length schedule)).state
   unfolding last_of
   run_is = run-last t schedule ok.table
 
-  safe-end : Safe t w (list_of t w buffer count) (run_of t schedule).state
+  safe-end : Safe t w (list_of t w buffer count) (state_by (run_of t schedule))
   safe-end = subst (λ (s : State). Safe t w (list_of t w buffer count) s) (sym run_is) (safe-each (length schedule))
 
 pub whole : Claim

@@ -4,7 +4,7 @@ use Rattle.std.specs.Prelude.{ℕ, ◌<◌, ◌≡◌, Bool, true, List, ℤ, po
 use Rattle.words.specs.Words.{word_of}
 use Rattle.interval.specs.Interval.{Within}
 use Rattle.table.specs.Layout.{sizes_of}
-use Rattle.analysis.specs.Rows.{Row}
+use Rattle.analysis.specs.declared.Row.{Row}
 use Rattle.rules.specs.Held.{has_of}
 use Rattle.rules.specs.Proposal.{held_word_of, held_of, row_at, rest_at}
 use Rattle.checker.specs.Laws.{on_list}

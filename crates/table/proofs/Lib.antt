@@ -1,7 +1,7 @@
 pub mod LayoutLaws
 pub mod DecodeLaws
-pub mod KindLaws
 pub mod FormedLaws
+pub mod KindLaws
 pub mod TreeLaws
 pub mod TaskLaws
 pub mod UseLaws

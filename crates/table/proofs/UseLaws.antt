@@ -1,21 +1,19 @@
 -- How often a node is used: what a count of one says of the users, and that the counts that stop at two tell a count of one.
 -- Assumes nothing.
 use Prim.Native.Nat.{ℕ, zero, suc, ◌+◌, ◌<◌, ◌≤◌, min}
-use mathlib.Core.Path.{◌≡◌, refl, sym, ◌∙◌}
-use mathlib.Core.Bool.{Bool, true, false, cond}
+use mathlib.Core.Path.{◌≡◌, refl, ◌∙◌}
+use mathlib.Core.Bool.{Bool}
 use mathlib.Core.List.{List, [], ◌∷◌, ◌++◌}
-use mathlib.Core.Logic.{⊎_elim}
-use native.Mathlib.Nat.{zero-add, eq-or-lt_of_le, le_of_suc-le-suc}
+use native.Mathlib.Nat.{zero-add}
 use native.Mathlib.Omega.{arith}
-use borrow.Author.Tests.{ltb-true, ltb-false, eqb-true, eqb-false, eq-eqb, ne_eqb}
-use lib.Dec.{eqb, ltb}
+use lib.Dec.{eqb}
 use lib.IntN.{ℤ}
-use lib.ListN.{length, get_or, set, replicate, length-set, length-replicate, get_or-replicate}
-use lib.Seq.{get_or-set_same, get_or-set_other}
-use Rattle.words.specs.declared.Found.{Found}
+use lib.ListN.{length, get_or, replicate, length-set, length-replicate, get_or-replicate}
+use Rattle.std.proofs.lemmas.Grind.{common_steps}
 use Rattle.words.specs.First.{first_bad}
 use Rattle.table.specs.Layout.{sizes_of, nodes_of, points_of}
 use Rattle.table.specs.Uses.{node_refs, point_refs, refs_below, one_if, count_of, uses_of, rule6, bump_of, use_of, uses_in, is_one_of}
+use Rattle.std.specs.Prelude.{Option}
 
 -- ---- counts over lists and over users
 pub count-append : (n : ℕ) (l m : List ℕ) → count_of n (l ++ m) ≡ count_of n l + count_of n m
@@ -28,16 +26,12 @@ module _ (f : ℕ → List ℕ) (n : ℕ) where
   pub user-count : (k p : ℕ) → p < k → count_of n (f p) ≤ count_of n (refs_below f k)
   unfolding refs_below
   user-count zero p l = absurd (omega arith)
-  user-count (suc k) p l =
-      rw (count-append n (refs_below f k) (f k))
-      (⊎_elim (λ e. rw e (omega arith)) (λ lt. omega (arith, user-count k p lt)) (eq-or-lt_of_le (le_of_suc-le-suc l)))
+  user-count (suc k) p l = let before = user-count k p in grind (arith, common_steps, count-append)
 
   users-count : (k p q : ℕ) → p < q → q < k → count_of n (f p) + count_of n (f q) ≤ count_of n (refs_below f k)
   unfolding refs_below
   users-count zero p q l h = absurd (omega arith)
-  users-count (suc k) p q l h =
-      rw (count-append n (refs_below f k) (f k))
-      (⊎_elim (λ e. rw e (omega (arith, user-count k p (omega arith)))) (λ lt. omega (arith, users-count k p q l lt)) (eq-or-lt_of_le (le_of_suc-le-suc h)))
+  users-count (suc k) p q l h = let one = user-count k p in let two = users-count k p q l in grind (arith, common_steps, count-append)
 
   -- so a node counted once has no two users
   pub users-apart : (k p q : ℕ) → count_of n (refs_below f k) ≤ 1 → p < k → q < k → 1 ≤ count_of n (f p) → 1 ≤ count_of n (f q) → p ≡ q
@@ -52,15 +46,6 @@ unfolding uses_in
 uses-append counts [] m = refl
 uses-append counts (n ∷ l) m = uses-append (use_of counts n) l m
 
--- a count c stands for k uses: one use more
-bump-min : (c k : ℕ) → c ≡ min 2 k → bump_of c ≡ min 2 (k + 1)
-unfolding bump_of
-bump-min c k e = by (ltb c 2) refl
-  where
-    by : (t : Bool) → ltb c 2 ≡ t → cond t (c + 1) c ≡ min 2 (k + 1)
-    by true q = let l = ltb-true c 2 q in omega arith
-    by false q = let l = ltb-false c 2 q in omega arith
-
 -- no use changes how many counts there are
 use-length : (counts : List ℕ) (x : ℕ) → length (use_of counts x) ≡ length counts
 unfolding use_of
@@ -71,14 +56,10 @@ unfolding uses_in
 uses-length counts [] = refl
 uses-length counts (x ∷ refs) = uses-length (use_of counts x) refs ∙ use-length counts x
 
--- the count of n after a use of x, and after all the uses in the list
+-- the count of n after a use of x, and after all the uses in the list: it stands for k uses
 use-min : (counts : List ℕ) (x n k : ℕ) → n < length counts → get_or counts n 0 ≡ min 2 k → get_or (use_of counts x) n 0 ≡ min 2 (k + one_if (eqb x n))
-unfolding use_of
-use-min counts x n k l e = by (eqb x n) refl
-  where
-    by : (t : Bool) → eqb x n ≡ t → get_or (set counts x (bump_of (get_or counts x 0))) n 0 ≡ min 2 (k + one_if t)
-    by true q = let is = eqb-true x n q in rw (is, get_or-set_same) (bump-min (get_or counts n 0) k e)
-    by false q = let is : n ≡ x → ⊥ = λ r. eqb-false x n q (sym r) in rw get_or-set_other (omega arith)
+unfolding use_of bump_of
+use-min counts x n k l e = grind (arith, common_steps)
 
 uses-min : (counts refs : List ℕ) (n k : ℕ) → n < length counts → get_or counts n 0 ≡ min 2 k → get_or (uses_in counts refs) n 0 ≡ min 2 (k + count_of n refs)
 unfolding uses_in count_of
@@ -88,11 +69,7 @@ uses-min counts (x ∷ refs) n k l e =
 
 -- a count of one stands for one use
 one-min : (c k : ℕ) → c ≡ min 2 k → eqb c 1 ≡ eqb k 1
-one-min c k e = by (eqb k 1) refl
-  where
-    by : (t : Bool) → eqb k 1 ≡ t → eqb c 1 ≡ t
-    by true q = let is = eqb-true k 1 q in eq-eqb c 1 (omega arith)
-    by false q = let other = eqb-false k 1 q in ne_eqb c 1 (λ is. omega arith)
+one-min c k e = grind (arith, common_steps)
 
 -- over any room, since the list of 1024 counts would be written out
 uses-one : (room : ℕ) (refs : List ℕ) (n : ℕ) → n < room → is_one_of (uses_in (replicate room 0) refs) n ≡ eqb (count_of n refs) 1
@@ -106,9 +83,9 @@ first_bad-same f g zero h = refl
 first_bad-same f g (suc n) h = rw (first_bad-same f g n (λ k l. h k (omega arith)), h n (omega arith))
 
 -- the first count that isn't one, where there is room for all nodes: the counts after the nodes' uses, and then after the points' uses
-pub uses-first :
-    (room : ℕ) (t : List ℤ) (one two : List ℕ) {count : ℕ} {r : Found} → (sizes_of t).nodes ≤ room → count ≡ (sizes_of t).nodes →
+pub uses_first :
+    (room : ℕ) (t : List ℤ) (one two : List ℕ) {count : ℕ} {r : Option ℕ} → (sizes_of t).nodes ≤ room → count ≡ (sizes_of t).nodes →
     one ≡ uses_in (replicate room 0) (refs_below (node_refs (nodes_of t)) (sizes_of t).nodes) → two ≡ uses_in one (refs_below (point_refs (points_of t)) (sizes_of t).points) →
     r ≡ first_bad (is_one_of two) count → r ≡ first_bad (rule6 t) (sizes_of t).nodes
 unfolding uses_of
-uses-first room t one two l ec e f g = rw (f, e, ← uses-append, ec) at g ∙ first_bad-same _ _ _ (λ n h. uses-one room _ n (omega arith))
+uses_first room t one two l ec e f g = rw (f, e, ← uses-append, ec) at g ∙ first_bad-same _ _ _ (λ n h. uses-one room _ n (omega arith))

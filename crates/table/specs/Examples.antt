@@ -1,15 +1,14 @@
 -- Document 01's examples of tables, in one table proved by computation: the starred one, and the three that are executed too.
 -- Assumes nothing.
 use Rattle.std.specs.Prelude.{◌≡◌, refl, List, [], ◌∷◌, map, ℤ, pos}
-use Rattle.words.specs.declared.Stage.{Stage}
-use Rattle.words.specs.declared.Stage.TheVariants.{Passed, Broken}
 use Rattle.words.specs.Words.{number_of}
 use Rattle.words.specs.First.{unless, or_else, first_bad}
-use Rattle.words.specs.Stages.{refuse}
+use Rattle.words.specs.Stages.{refuse, Stage, passed, broken}
 use Rattle.table.specs.Layout.{shares_of, points_of, nodes_of, four_by, four_of, first_in, later_of, last_in, first_of, task_of}
 use Rattle.table.specs.Formed.{node_fields_of, point_fields_of, fits_of}
 use Rattle.table.specs.Uses.{ref_of, refs_below, count_of, uses_of}
 use Rattle.table.specs.Validate.{validate_of, sizes_stage, parts_stage}
+use Rattle.words.specs.declared.refusal.Rule.TheVariants.{Length, Size}
 
 -- a table, and what the document says of it
 pub record Row : Type 0 where
@@ -22,13 +21,13 @@ row t s = record { table = t; said = s }
 unfoldable pub rows : List Row
 rows =
     -- starred: the empty table
-    row [] (Broken 1 0)
+    row [] (broken Length 0)
     -- Bare
-    ∷ row (pos 2 ∷ pos 1 ∷ pos 0 ∷ pos 3 ∷ pos 1 ∷ pos 2 ∷ pos 1 ∷ pos 0 ∷ pos 1 ∷ pos 0 ∷ pos 0 ∷ pos 1 ∷ pos 0 ∷ pos 0 ∷ pos 0 ∷ pos 0 ∷ pos 0 ∷ pos 0 ∷ pos 0 ∷ pos 0 ∷ pos 0 ∷ pos 5 ∷ pos 0 ∷ pos 0 ∷ []) Passed
+    ∷ row (pos 2 ∷ pos 1 ∷ pos 0 ∷ pos 3 ∷ pos 1 ∷ pos 2 ∷ pos 1 ∷ pos 0 ∷ pos 1 ∷ pos 0 ∷ pos 0 ∷ pos 1 ∷ pos 0 ∷ pos 0 ∷ pos 0 ∷ pos 0 ∷ pos 0 ∷ pos 0 ∷ pos 0 ∷ pos 0 ∷ pos 0 ∷ pos 5 ∷ pos 0 ∷ pos 0 ∷ []) passed
     -- whole at 11 words; without its last word; with a first word of 9
-    ∷ row (pos 1 ∷ pos 1 ∷ pos 0 ∷ pos 1 ∷ pos 0 ∷ pos 1 ∷ pos 0 ∷ pos 0 ∷ pos 0 ∷ pos 0 ∷ pos 0 ∷ []) Passed
-    ∷ row (pos 1 ∷ pos 1 ∷ pos 0 ∷ pos 1 ∷ pos 0 ∷ pos 1 ∷ pos 0 ∷ pos 0 ∷ pos 0 ∷ pos 0 ∷ []) (Broken 1 10)
-    ∷ row (pos 9 ∷ pos 1 ∷ pos 0 ∷ pos 1 ∷ pos 0 ∷ pos 1 ∷ pos 0 ∷ pos 0 ∷ pos 0 ∷ pos 0 ∷ pos 0 ∷ []) (Broken 2 0)
+    ∷ row (pos 1 ∷ pos 1 ∷ pos 0 ∷ pos 1 ∷ pos 0 ∷ pos 1 ∷ pos 0 ∷ pos 0 ∷ pos 0 ∷ pos 0 ∷ pos 0 ∷ []) passed
+    ∷ row (pos 1 ∷ pos 1 ∷ pos 0 ∷ pos 1 ∷ pos 0 ∷ pos 1 ∷ pos 0 ∷ pos 0 ∷ pos 0 ∷ pos 0 ∷ []) (broken Length 10)
+    ∷ row (pos 9 ∷ pos 1 ∷ pos 0 ∷ pos 1 ∷ pos 0 ∷ pos 1 ∷ pos 0 ∷ pos 0 ∷ pos 0 ∷ pos 0 ∷ pos 0 ∷ []) (broken Size 0)
     ∷ []
 
 abbrev pub Starred : Type 0

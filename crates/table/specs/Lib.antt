@@ -1,7 +1,9 @@
 pub mod Layout
+pub mod Cut
 pub mod Decode
 pub mod Tree
 pub mod Meaning
+pub mod Sort
 pub mod Formed
 pub mod Uses
 pub mod Validate

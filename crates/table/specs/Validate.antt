@@ -2,14 +2,13 @@
 -- Assumes nothing.
 use Rattle.std.specs.Prelude.{ℕ, Bool, List, [], ◌∷◌, eqb, leb, ℤ, pos, length, get_or}
 use Rattle.std.specs.Int.Signed.{le_z}
-use Rattle.words.specs.declared.Stage.{Stage}
-use Rattle.words.specs.declared.Stage.TheVariants.{Passed}
 use Rattle.words.specs.Words.{word_of, number_at, inside}
 use Rattle.words.specs.First.{unless, first_bad}
-use Rattle.words.specs.Stages.{refuse, Numbers, stage_numbers}
+use Rattle.words.specs.Stages.{refuse, Numbers, stage_numbers, Stage, passed}
 use Rattle.table.specs.Layout.{sizes_of, length_of, shares_of, points_of, nodes_of, first_of}
 use Rattle.table.specs.Formed.{Limits, node_ok_of, point_ok_of}
 use Rattle.table.specs.Uses.{rule6}
+use Rattle.words.specs.declared.refusal.Rule.TheVariants.{Length, Size, Share, Node, Point, Use}
 
 -- ---- 2 size: 'tasks 1..8, variables 1..16, mutexes 0..8, points 1..256, nodes 0..1024'
 abbrev pub lowest : List ℕ
@@ -38,19 +37,19 @@ rule5 t p = point_ok_of (limits_of t) t (nodes_of t) (points_of t) p
 -- 1 length, 2 size
 unfoldable pub sizes_stage : List ℤ → Stage → Stage
 sizes_stage t later =
-    refuse 1 (unless (leb 5 (length t)) (length t))
-    (refuse 2 (first_bad (size_ok_of t) 5)
-    (refuse 1 (unless (eqb (length t) (length_of (sizes_of t))) (length t))
+    refuse Length (unless (leb 5 (length t)) (length t))
+    (refuse Size (first_bad (size_ok_of t) 5)
+    (refuse Length (unless (eqb (length t) (length_of (sizes_of t))) (length t))
     later))
 
 unfoldable pub parts_stage : List ℤ → Stage
 parts_stage t =
-    refuse 3 (first_bad (share_ok_of (shares_of t)) (sizes_of t).tasks)
-    (refuse 3 (unless (eqb (first_of t (sizes_of t).tasks) (sizes_of t).points) (sizes_of t).tasks)
-    (refuse 4 (first_bad (rule4 t) (sizes_of t).nodes)
-    (refuse 5 (first_bad (rule5 t) (sizes_of t).points)
-    (refuse 6 (first_bad (rule6 t) (sizes_of t).nodes)
-    Passed))))
+    refuse Share (first_bad (share_ok_of (shares_of t)) (sizes_of t).tasks)
+    (refuse Share (unless (eqb (first_of t (sizes_of t).tasks) (sizes_of t).points) (sizes_of t).tasks)
+    (refuse Node (first_bad (rule4 t) (sizes_of t).nodes)
+    (refuse Point (first_bad (rule5 t) (sizes_of t).points)
+    (refuse Use (first_bad (rule6 t) (sizes_of t).nodes)
+    passed))))
 
 abbrev pub validate_of : List ℤ → Stage
 validate_of t = sizes_stage t (parts_stage t)

@@ -1,11 +1,9 @@
 -- The code's one walk for refusals 4 to 6: what it gives at a place and over places, and what it knows of the table.
 -- Assumes nothing.
-use Rattle.std.specs.Prelude.{ℕ, suc, ◌<◌, ◌≤◌, ◌≡◌, Bool, true, ◌&&◌, List, eqb, leb, ltb, ℤ, length}
-use Rattle.words.specs.declared.Found.{Found}
-use Rattle.words.specs.declared.Found.TheVariants.{Nothing}
+use Rattle.std.specs.Prelude.{ℕ, ◌≤◌, ◌≡◌, Bool, true, ◌&&◌, List, eqb, leb, ltb, ℤ, length, Option, None}
 use Rattle.words.specs.First.{first_bad}
 use Rattle.table.specs.declared.Bounds.{Bounds}
-use Rattle.table.specs.Layout.{sizes_of, length_of, first_of, task_of}
+use Rattle.table.specs.Layout.{sizes_of, length_of, task_of}
 use Rattle.table.specs.Uses.{refs_below, uses_in}
 
 -- ---- what the walk gives; `before` and `after` are the counts
@@ -15,13 +13,13 @@ pub record Counted (ok : Bool) (refs before after : List ℕ) (r : Bool) : Type 
   pub uses : r ≡ true → after ≡ uses_in before refs
 
 -- over the first n places: the smallest that fails, and where none does, the counts after the uses of them all
-pub record Walked (ok : ℕ → Bool) (refs : ℕ → List ℕ) (n : ℕ) (before after : List ℕ) (r : Found) : Type 0 where
+pub record Walked (ok : ℕ → Bool) (refs : ℕ → List ℕ) (n : ℕ) (before after : List ℕ) (r : Option ℕ) : Type 0 where
   pub is : r ≡ first_bad ok n
-  pub uses : r ≡ Nothing → after ≡ uses_in before (refs_below refs n)
+  pub uses : r ≡ None → after ≡ uses_in before (refs_below refs n)
 
 -- after a walk over the first `from` places that found none, the same over the first `to`
-abbrev pub WalkedOn : (ℕ → Bool) → (ℕ → List ℕ) → ℕ → ℕ → List ℕ → List ℕ → Found → Type 0
-WalkedOn ok refs from to before after r = (start : List ℕ) → Walked ok refs from start before Nothing → Walked ok refs to start after r
+abbrev pub WalkedOn : (ℕ → Bool) → (ℕ → List ℕ) → ℕ → ℕ → List ℕ → List ℕ → Option ℕ → Type 0
+WalkedOn ok refs from to before after r = (start : List ℕ) → Walked ok refs from start before None → Walked ok refs to start after r
 
 -- ---- what the walk knows of a table t
 -- its sizes and its length have passed
@@ -29,13 +27,6 @@ pub record Whole (t : List ℤ) : Type 0 where
   pub some : 1 ≤ (sizes_of t).tasks
   pub few : (sizes_of t).nodes ≤ 1024
   pub whole : length t ≡ length_of (sizes_of t)
-
--- the points from `first` on and below `last` are those of one task
-pub record OneTask (t : List ℤ) (first last : ℕ) : Type 0 where
-  pub task : ℕ
-  pub there : task < (sizes_of t).tasks
-  pub from : first ≡ first_of t task
-  pub to : last ≡ first_of t (suc task)
 
 -- what the point p may name is within b
 pub record Bounded (t : List ℤ) (p : ℕ) (b : Bounds) : Type 0 where

@@ -4,14 +4,17 @@
 ghost use Rattle.table.specs.Laws.{Laws};
 ghost use Rattle.table.specs.Examples.{Starred};
 
+pub mod checked;
 pub mod decode;
 pub mod formed;
 pub mod layout;
 mod uses;
 pub mod validate;
 
+pub use checked::Table;
+
 // The five sizes.
-#[derive(Clone, Copy)]
+#[derive(Clone, Copy, Debug, PartialEq, Eq)]
 pub struct Sizes {
     pub tasks: usize,
     pub variables: usize,
@@ -21,7 +24,7 @@ pub struct Sizes {
 }
 
 // The four words of a point or a node.
-#[derive(Clone, Copy)]
+#[derive(Clone, Copy, Debug, Default, PartialEq, Eq)]
 pub struct Four {
     pub kind: i32,
     pub a: i32,
@@ -30,7 +33,7 @@ pub struct Four {
 }
 
 // A node as the evaluators read it: its kind, the words of its first two fields, and the numbers of all three.
-#[derive(Clone, Copy)]
+#[derive(Clone, Copy, Debug, PartialEq, Eq)]
 pub struct Node {
     pub kind: usize,
     pub x: i32,
@@ -42,7 +45,7 @@ pub struct Node {
 
 // What stands at a node, its children by their numbers. Kinds 4 to 7 are one shape with the operation's name, and so are 16 to 19 with the
 // comparison's. Bad: an unknown kind, or a child that is not below its parent.
-#[derive(Clone, Copy)]
+#[derive(Clone, Copy, Debug, PartialEq, Eq)]
 pub enum Shape {
     Constant(i32),
     Input(i32, i32),
@@ -58,7 +61,7 @@ pub enum Shape {
 }
 
 // What stands at a point. An unknown kind is an end.
-#[derive(Clone, Copy)]
+#[derive(Clone, Copy, Debug, PartialEq, Eq)]
 pub enum Point {
     End,
     // variable, arithmetic node, target
@@ -71,28 +74,13 @@ pub enum Point {
 }
 
 // What the fields of a point may name: so many variables, mutexes and nodes, and the points of its task, from first on and below last.
-#[derive(Clone, Copy)]
+#[derive(Clone, Copy, Debug, PartialEq, Eq)]
 pub struct Bounds {
     pub variables: usize,
     pub mutexes: usize,
     pub nodes: usize,
     pub first: usize,
     pub last: usize,
-}
-
-// What the evaluation of arithmetic comes to, with the position in the schedule after it: a value, or an error at a node, of a kind (1
-// overflow, 2 division by zero).
-#[derive(Clone, Copy)]
-pub enum Evaluation {
-    Value(i32, usize),
-    Error(usize, usize, usize),
-}
-
-// The same of a condition.
-#[derive(Clone, Copy)]
-pub enum Verity {
-    Truth(bool, usize),
-    Failure(usize, usize, usize),
 }
 
 // Does nothing: its contract is every law of the crate and the worked examples, so that none of them can go unproved.

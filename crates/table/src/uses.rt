@@ -3,15 +3,17 @@ ghost use Rattle.std.specs.Prelude.{◌≡◌};
 ghost use Rattle.words.specs.First.{first_bad};
 ghost use Rattle.table.specs.Uses.{bump_of, use_of, is_one_of};
 
-use words::Found;
+use words::first_bad;
 
 // One use more, up to two.
+#[tactic(auto, unfolding(crate::specs::Uses::bump_of))]
 fn bump(c: u8) -> u8
     ensures { result ≡ bump_of c }
 {
     if c < 2 { c + 1 } else { c }
 }
 
+#[tactic(auto, unfolding(crate::specs::Uses::use_of))]
 pub(crate) fn use_node(counts: &mut [u8], n: usize)
     ensures { counts.new ≡ use_of counts.old n }
 {
@@ -23,23 +25,12 @@ pub(crate) fn use_node(counts: &mut [u8], n: usize)
 fn is_one(counts: &[u8], n: usize) -> bool
     ensures { result ≡ is_one_of counts.now n }
 {
-    if n < counts.len() {
-        counts[n] == 1
-    } else {
-        false
-    }
+    counts.get(n).copied() == Some(1)
 }
 
 // The first of so many counts that isn't 1.
-pub(crate) fn first_not_one(counts: &[u8; 1024], count: usize) -> Found
+pub(crate) fn first_not_one(counts: &[u8; 1024], count: usize) -> Option<usize>
     ensures { result ≡ first_bad (is_one_of counts.now) count }
 {
-    let mut n = 0;
-    while n < count {
-        if !is_one(counts, n) {
-            return Found::At(n);
-        }
-        n += 1;
-    }
-    Found::Nothing
+    first_bad(count, |n| is_one(counts, n))
 }

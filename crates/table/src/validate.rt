@@ -1,21 +1,20 @@
 // Refusals 1 to 6, in document 01's order, each with its smallest place.
-ghost use Rattle.std.specs.Prelude.{◌≡◌, ◌<◌};
+ghost use Rattle.std.specs.Prelude.{◌≡◌, ◌+◌, ◌<◌};
 ghost use Rattle.words.specs.First.{first_bad};
 ghost use Rattle.words.specs.Stages.{stage_numbers};
 ghost use Rattle.table.specs.Layout.{sizes_of, points_of, nodes_of, first_of};
 ghost use Rattle.table.specs.Uses.{node_refs, point_refs};
 ghost use Rattle.table.specs.Validate.{size_ok_of, share_ok_of, rule4, rule5, parts_stage, validate_of, table_numbers};
-ghost use Rattle.table.specs.Walk.{Walked, WalkedOn, Whole, OneTask};
+ghost use Rattle.table.specs.Walk.{Walked, WalkedOn, Whole};
 
 use crate::Bounds;
 use crate::formed::{node_ok, point_ok};
 use crate::layout::{first_of, length_for, node_words, point_words, shares, sizes};
 use crate::uses::first_not_one;
-use words::{Found, Stage, number_at, word};
+use words::{Refusal, Rule, first_bad, number_at, refuse, word};
 
-const LOWEST: [usize; 5] = [1, 1, 0, 1, 0];
-
-const HIGHEST: [usize; 5] = [8, 16, 8, 256, 1024];
+// The least and the greatest of each size: tasks, variables, mutexes, points, nodes.
+const LIMITS: [(usize, usize); 5] = [(1, 8), (1, 16), (0, 8), (1, 256), (0, 1024)];
 
 // Refusal 2 at a size.
 fn size_ok(t: &[i32], k: usize) -> bool
@@ -23,20 +22,8 @@ fn size_ok(t: &[i32], k: usize) -> bool
     ensures { result ≡ size_ok_of t.now k }
 {
     let n = number_at(t, k);
-    (LOWEST[k] <= n) & (n <= HIGHEST[k])
-}
-
-fn first_size(t: &[i32]) -> Found
-    ensures { result ≡ first_bad (size_ok_of t.now) 5 }
-{
-    let mut k = 0;
-    while k < 5 {
-        if !size_ok(t, k) {
-            return Found::At(k);
-        }
-        k += 1;
-    }
-    Found::Nothing
+    let (low, high) = LIMITS[k];
+    (low..=high).contains(&n)
 }
 
 // Refusal 3 at a task.
@@ -46,131 +33,89 @@ fn share_ok(shares: &[i32], u: usize) -> bool
     1 <= word(shares, u)
 }
 
-fn first_share(shares: &[i32], tasks: usize) -> Found
-    ensures { result ≡ first_bad (share_ok_of shares.now) tasks }
-{
-    let mut u = 0;
-    while u < tasks {
-        if !share_ok(shares, u) {
-            return Found::At(u);
-        }
-        u += 1;
-    }
-    Found::Nothing
-}
-
 // Refusal 4: the first node that fails, or the counts after the uses of all.
-fn first_node<'a, 'b>(t: &'a [i32], counts: &'b mut [u8; 1024]) -> Found
+fn first_node(t: &[i32], counts: &mut [u8; 1024]) -> Option<usize>
     ensures { Walked (rule4 t.now) (node_refs (nodes_of t.now)) (sizes_of t.now).nodes counts.old counts.new result }
 {
     let s = sizes(t);
     let nodes = node_words(t);
-    let variables = s.variables;
-    let count = s.nodes;
-    let mut n = 0;
-    while n < count {
-        if !node_ok(variables, nodes, n, counts) {
-            return Found::At(n);
+    for n in 0..s.nodes {
+        if !node_ok(s, nodes, n, counts) {
+            return Some(n);
         }
-        n += 1;
     }
-    Found::Nothing
+    None
 }
 
-// Refusal 5 at the points of one task, which follow those that passed.
-fn first_in_task<'a, 'b>(
-    t: &'a [i32],
-    first: usize,
-    last: usize,
-    counts: &'b mut [u8; 1024],
-) -> Found
+// Refusal 5 at the points of the task u, which follow those that passed.
+fn first_in_task(t: &[i32], u: usize, counts: &mut [u8; 1024]) -> Option<usize>
     requires whole { Whole t.now }
-    requires t_value { first_of t.now (sizes_of t.now).tasks ≡ (sizes_of t.now).points }
-    requires one_task { OneTask t.now first last }
-    ensures { WalkedOn (rule5 t.now) (point_refs (points_of t.now)) first last counts.old counts.new result }
+    requires sum { first_of t.now (sizes_of t.now).tasks ≡ (sizes_of t.now).points }
+    requires task { u < (sizes_of t.now).tasks }
+    ensures { WalkedOn (rule5 t.now) (point_refs (points_of t.now)) (first_of t.now u) (first_of t.now (u + 1)) counts.old counts.new result }
 {
     let s = sizes(t);
     let nodes = node_words(t);
     let points = point_words(t);
-    let b = Bounds {
+    let first = first_of(t, u);
+    let last = first_of(t, u + 1);
+    let bounds = Bounds {
         variables: s.variables,
         mutexes: s.mutexes,
         nodes: s.nodes,
-        first: first,
-        last: last,
+        first,
+        last,
     };
-    let mut p = first;
-    while p < last {
-        if !point_ok(b, nodes, points, p, counts) {
-            return Found::At(p);
+    for p in first..last {
+        if !point_ok(bounds, nodes, points, p, counts) {
+            return Some(p);
         }
-        p += 1;
     }
-    Found::Nothing
+    None
 }
 
 // Refusal 5, task by task.
-fn first_point<'a, 'b>(t: &'a [i32], counts: &'b mut [u8; 1024]) -> Found
+fn first_point(t: &[i32], counts: &mut [u8; 1024]) -> Option<usize>
     requires whole { Whole t.now }
-    requires t_value { first_of t.now (sizes_of t.now).tasks ≡ (sizes_of t.now).points }
+    requires sum { first_of t.now (sizes_of t.now).tasks ≡ (sizes_of t.now).points }
     ensures { Walked (rule5 t.now) (point_refs (points_of t.now)) (sizes_of t.now).points counts.old counts.new result }
 {
-    let s = sizes(t);
-    let of = shares(t);
-    let tasks = s.tasks;
-    let mut first = 0;
-    let mut u = 0;
-    while u < tasks {
-        let last = first + number_at(of, u);
-        if let Found::At(p) = first_in_task(t, first, last, counts) {
-            return Found::At(p);
+    for u in 0..sizes(t).tasks {
+        if let Some(p) = first_in_task(t, u, counts) {
+            return Some(p);
         }
-        first = last;
-        u += 1;
     }
-    Found::Nothing
+    None
 }
 
 // Refusals 3 to 6 of a table whose sizes and length passed.
-fn parts(t: &[i32]) -> Stage
+#[tactic(auto, unfolding(crate::specs::Validate::parts_stage, words::specs::Stages::refuse, words::specs::First::unless))]
+fn parts(t: &[i32]) -> Result<(), Refusal>
     requires { Whole t.now }
     ensures { result ≡ parts_stage t.now }
 {
     let s = sizes(t);
-    let tasks = s.tasks;
-    if let Found::At(u) = first_share(shares(t), tasks) {
-        return Stage::Broken(3, u);
-    }
-    if first_of(t, tasks) != s.points {
-        return Stage::Broken(3, tasks);
-    }
+    let shares = shares(t);
+    refuse(Rule::Share, first_bad(s.tasks, |u| share_ok(shares, u)))?;
+    refuse(
+        Rule::Share,
+        (first_of(t, s.tasks) != s.points).then_some(s.tasks),
+    )?;
     let mut counts = [0u8; 1024];
-    if let Found::At(n) = first_node(t, &mut counts) {
-        return Stage::Broken(4, n);
-    }
-    if let Found::At(p) = first_point(t, &mut counts) {
-        return Stage::Broken(5, p);
-    }
-    if let Found::At(n) = first_not_one(&counts, s.nodes) {
-        return Stage::Broken(6, n);
-    }
-    Stage::Passed
+    refuse(Rule::Node, first_node(t, &mut counts))?;
+    refuse(Rule::Point, first_point(t, &mut counts))?;
+    refuse(Rule::Use, first_not_one(&counts, s.nodes))
 }
 
-// The first of refusals 1 to 6, or passed.
-pub fn validate(t: &[i32]) -> Stage
+// The first of refusals 1 to 6, or none.
+#[tactic(auto, using(crate::proofs::PassLaws::sizes_passed), unfolding(crate::specs::Validate::sizes_stage, words::specs::Stages::refuse, words::specs::First::unless))]
+pub fn validate(t: &[i32]) -> Result<(), Refusal>
     ensures value { result ≡ validate_of t.now }
     ensures result_value { stage_numbers result ≡ table_numbers t.now }
 {
     let n = t.len();
-    if n < 5 {
-        return Stage::Broken(1, n);
-    }
-    if let Found::At(k) = first_size(t) {
-        return Stage::Broken(2, k);
-    }
-    if n != length_for(t) {
-        return Stage::Broken(1, n);
-    }
+    refuse(Rule::Length, (n < 5).then_some(n))?;
+    refuse(Rule::Size, first_bad(5, |k| size_ok(t, k)))?;
+    refuse(Rule::Length, (n != length_for(t)).then_some(n))?;
     parts(t)
 }

@@ -20,6 +20,11 @@ module _ {A : Type 0} where
   length-tabulate f zero = refl
   length-tabulate f (suc n) = let h = length-tabulate f n in simp length-append (omega arith)
 
+  pub tabulate-same : (f g : ℕ → A) (n : ℕ) → ((i : ℕ) → i < n → f i ≡ g i) → tabulate f n ≡ tabulate g n
+  unfolding tabulate
+  tabulate-same f g zero h = refl
+  tabulate-same f g (suc n) h = rw (tabulate-same f g n (λ i l. h i (omega arith)), h n (omega arith)) refl
+
   -- the list from its first value on
   pub tabulate-front : (f : ℕ → A) (n : ℕ) → tabulate f (suc n) ≡ f 0 ∷ tabulate (λ i. f (suc i)) n
   unfolding tabulate

@@ -13,30 +13,29 @@ use mathlib.Core.Logic.{⊎_elim}
 use native.Mathlib.Nat.{not-suc-le-zero, eq-or-lt_of_le, le_of_suc-le-suc, le_antisymm}
 use native.Mathlib.Numerals.{add-one}
 use native.Mathlib.Omega.{arith}
-use Rattle.words.specs.declared.Found.{Found}
-use Rattle.words.specs.declared.Found.TheVariants.{Nothing, At}
+use Rattle.std.specs.Prelude.{Option, None, Some}
 use Rattle.words.specs.First.{first_bad, or_else, unless, all_below, some_below}
 use Rattle.words.specs.Laws.{Smallest}
 use Rattle.words.proofs.Bools.{clash, and-true, and_left, and_right, and-false, or_left, or_right}
 
-none_more : (f : ℕ → Bool) (k : ℕ) → first_bad f k ≡ Nothing → f k ≡ true → first_bad f (k + 1) ≡ Nothing
+none_more : (f : ℕ → Bool) (k : ℕ) → first_bad f k ≡ None → f k ≡ true → first_bad f (k + 1) ≡ None
 unfolding first_bad or_else unless
 none_more f k p q = rw (add-one, p, q)
 
-here : (f : ℕ → Bool) (k : ℕ) → first_bad f k ≡ Nothing → f k ≡ false → first_bad f (suc k) ≡ At k
+here : (f : ℕ → Bool) (k : ℕ) → first_bad f k ≡ None → f k ≡ false → first_bad f (suc k) ≡ Some k
 unfolding first_bad or_else unless
 here f k p q = rw (p, q)
 
-found : (f : ℕ → Bool) (n k : ℕ) → k < n → first_bad f k ≡ Nothing → f k ≡ false → first_bad f n ≡ At k
+found : (f : ℕ → Bool) (n k : ℕ) → k < n → first_bad f k ≡ None → f k ≡ false → first_bad f n ≡ Some k
 unfolding first_bad or_else unless
 found f zero k l p q = absurd (not-suc-le-zero l)
 found f (suc n) k l p q =
-    ⊎_elim (λ e. subst (λ (j : ℕ). first_bad f (suc j) ≡ At k) e (here f k p q)) (λ lt. ap (λ (r : Found). or_else r (unless (f n) n)) (found f n k lt p q))
+    ⊎_elim (λ e. subst (λ (j : ℕ). first_bad f (suc j) ≡ Some k) e (here f k p q)) (λ lt. ap (λ (r : Option ℕ). or_else r (unless (f n) n)) (found f n k lt p q))
     (eq-or-lt_of_le (le_of_suc-le-suc l))
 
 pub record Searched (f : ℕ → Bool) (n k : ℕ) : Type 0 where
   pub within : k ≤ n
-  pub none : first_bad f k ≡ Nothing
+  pub none : first_bad f k ≡ None
 
 pub start : {f : ℕ → Bool} {n : ℕ} → Searched f n 0
 unfolding first_bad or_else unless
@@ -45,29 +44,29 @@ start = record { within = zero-le; none = refl }
 pub next : {f : ℕ → Bool} {n k : ℕ} → Searched f n k → k < n → f k ≡ true → Searched f n (k + 1)
 next {f} {n} {k} s l q = record { within = omega arith; none = none_more f k s.none q }
 
-pub stop : {f : ℕ → Bool} {n k : ℕ} → Searched f n k → k < n → f k ≡ false → At k ≡ first_bad f n
+pub stop : {f : ℕ → Bool} {n k : ℕ} → Searched f n k → k < n → f k ≡ false → Some k ≡ first_bad f n
 stop {f} {n} {k} s l q = sym (found f n k l s.none q)
 
-pub done : {f : ℕ → Bool} {n k : ℕ} → Searched f n k → n ≤ k → Nothing ≡ first_bad f n
-done {f} {n} {k} s l = sym (subst (λ (j : ℕ). first_bad f j ≡ Nothing) (le_antisymm s.within l) s.none)
+pub done : {f : ℕ → Bool} {n k : ℕ} → Searched f n k → n ≤ k → None ≡ first_bad f n
+done {f} {n} {k} s l = sym (subst (λ (j : ℕ). first_bad f j ≡ None) (le_antisymm s.within l) s.none)
 
 -- two answers in a row that are nothing: each is
-first-nothing : (a b : Found) → or_else a b ≡ Nothing → a ≡ Nothing
+first-nothing : (a b : Option ℕ) → or_else a b ≡ None → a ≡ None
 unfolding or_else
-first-nothing Nothing b e = refl
-first-nothing (At p) b e = e
+first-nothing None b e = refl
+first-nothing (Some p) b e = e
 
-then-nothing : (a b : Found) → or_else a b ≡ Nothing → b ≡ Nothing
+then-nothing : (a b : Option ℕ) → or_else a b ≡ None → b ≡ None
 unfolding or_else
-then-nothing Nothing b e = e
-then-nothing (At p) b e = let z : ◌≡◌ {A = ℕ} 0 1 = cc in absurd (omega arith)
+then-nothing None b e = e
+then-nothing (Some p) b e = let z : ◌≡◌ {A = ℕ} 0 1 = cc in absurd (omega arith)
 
-pub unless-nothing : (b : Bool) (p : ℕ) → unless b p ≡ Nothing → b ≡ true
+pub unless-nothing : (b : Bool) (p : ℕ) → unless b p ≡ None → b ≡ true
 unfolding unless
 unless-nothing true p e = refl
 unless-nothing false p e = let z : ◌≡◌ {A = ℕ} 0 1 = cc in absurd (omega arith)
 
-pub first_bad-none : (f : ℕ → Bool) (n : ℕ) → first_bad f n ≡ Nothing → (k : ℕ) → k < n → f k ≡ true
+pub first_bad-none : (f : ℕ → Bool) (n : ℕ) → first_bad f n ≡ None → (k : ℕ) → k < n → f k ≡ true
 unfolding first_bad or_else unless
 first_bad-none f zero e k l = absurd (not-suc-le-zero l)
 first_bad-none f (suc n) e k l =
@@ -76,6 +75,11 @@ first_bad-none f (suc n) e k l =
     (eq-or-lt_of_le (le_of_suc-le-suc l))
 
 -- ---- `all_below`: a test holds at each index
+pub all_below-same : (f g : ℕ → Bool) (n : ℕ) → ((i : ℕ) → i < n → f i ≡ g i) → all_below f n ≡ all_below g n
+unfolding all_below
+all_below-same f g zero h = refl
+all_below-same f g (suc n) h = rw (all_below-same f g n (λ i l. h i (omega arith)), h n (omega arith)) refl
+
 pub each-all_below : (f : ℕ → Bool) (n : ℕ) → ((k : ℕ) → k < n → f k ≡ true) → all_below f n ≡ true
 unfolding all_below
 each-all_below f zero h = refl
@@ -115,28 +119,28 @@ pub checked : {f : ℕ → Bool} {n k : ℕ} → Checked f n k → n ≤ k → a
 checked {f} {n} {k} s l = subst (λ (j : ℕ). all_below f j ≡ true) (le_antisymm s.within l) s.all
 
 -- ---- what `first_bad` is: the place is below n, fails, and nothing before it does; and there is no other answer
-pub none-first_bad : (f : ℕ → Bool) (k : ℕ) → ((j : ℕ) → j < k → f j ≡ true) → first_bad f k ≡ Nothing
+pub none-first_bad : (f : ℕ → Bool) (k : ℕ) → ((j : ℕ) → j < k → f j ≡ true) → first_bad f k ≡ None
 unfolding first_bad or_else unless
 none-first_bad f zero h = refl
 none-first_bad f (suc k) h = rw (none-first_bad f k (λ j l. h j (omega arith)), h k (omega arith))
 
-pub smallest-first_bad : (f : ℕ → Bool) (n k : ℕ) → Smallest f n k → first_bad f n ≡ At k
+pub smallest-first_bad : (f : ℕ → Bool) (n k : ℕ) → Smallest f n k → first_bad f n ≡ Some k
 smallest-first_bad f n k s = found f n k s.below (none-first_bad f k s.earlier) s.fails
 
-at-inj : {j k : ℕ} → At j ≡ At k → j ≡ k
+at-inj : {j k : ℕ} → Some j ≡ Some k → j ≡ k
 at-inj e = cc
 
-first_bad-smallest-by : (f : ℕ → Bool) (n k : ℕ) (a : Found) (b : Bool) → first_bad f n ≡ a → f n ≡ b → ((k : ℕ) → first_bad f n ≡ At k → Smallest f n k) → or_else a (unless b n) ≡ At k → Smallest f (suc n) k
+first_bad-smallest-by : (f : ℕ → Bool) (n k : ℕ) (a : Option ℕ) (b : Bool) → first_bad f n ≡ a → f n ≡ b → ((k : ℕ) → first_bad f n ≡ Some k → Smallest f n k) → or_else a (unless b n) ≡ Some k → Smallest f (suc n) k
 unfolding or_else unless
-first_bad-smallest-by f n k Nothing true ea eb ih e = let z : ◌≡◌ {A = ℕ} 0 1 = cc in absurd (omega arith)
-first_bad-smallest-by f n k Nothing false ea eb ih e =
+first_bad-smallest-by f n k None true ea eb ih e = let z : ◌≡◌ {A = ℕ} 0 1 = cc in absurd (omega arith)
+first_bad-smallest-by f n k None false ea eb ih e =
     let q : n ≡ k = at-inj e in
     record { below = omega arith; fails = subst (λ (j : ℕ). f j ≡ false) q eb; earlier = subst (λ (m : ℕ). (j : ℕ) → j < m → f j ≡ true) q (first_bad-none f n ea) }
-first_bad-smallest-by f n k (At p) b ea eb ih e =
+first_bad-smallest-by f n k (Some p) b ea eb ih e =
     let s = ih k (ea ∙ e) in
     record { below = omega (arith, s.below); fails = s.fails; earlier = s.earlier }
 
-pub first_bad-smallest : (f : ℕ → Bool) (n k : ℕ) → first_bad f n ≡ At k → Smallest f n k
+pub first_bad-smallest : (f : ℕ → Bool) (n k : ℕ) → first_bad f n ≡ Some k → Smallest f n k
 unfolding first_bad
 first_bad-smallest f zero k e = let z : ◌≡◌ {A = ℕ} 0 1 = cc in absurd (omega arith)
 first_bad-smallest f (suc n) k e = first_bad-smallest-by f n k (first_bad f n) (f n) refl refl (λ j q. first_bad-smallest f n j q) e

@@ -1,9 +1,11 @@
 pub mod Bools
 pub mod FirstLaws
+pub mod PlaceLaws
 pub mod StageLaws
 pub mod Laws
 pub mod Signed
 pub mod PartLaws
 pub mod FillLaws
+pub mod PadLaws
 pub mod ListLaws
 pub mod BelowLaws

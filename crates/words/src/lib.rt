@@ -1,31 +1,23 @@
-// What every layer reads and refuses with: total reading of words, the smallest failing place, stages of refusals.
+// What every layer reads and refuses with: total reading of words, the smallest failing place, refusals.
 #![tactic(auto)]
 
-ghost use Rattle.std.specs.Prelude.{◌≡◌, ◌≤◌};
+ghost use Rattle.std.specs.Prelude.{◌≡◌, ◌≤◌, replicate};
 ghost use Rattle.words.specs.Words.{word_of, number_of, number_at, part_of};
 ghost use Rattle.words.specs.Laws.{Laws};
+ghost use Rattle.words.specs.Tabulate.{tabulate};
 
 pub mod bytes;
+pub mod refusal;
+pub mod search;
 
-// What a search for the first failing place gives.
-#[derive(Clone, Copy)]
-pub enum Found {
-    Nothing,
-    At(usize),
-}
-
-// What a stage of refusals gives: passed, or the first broken rule with its smallest place.
-#[derive(Clone, Copy)]
-pub enum Stage {
-    Passed,
-    Broken(u32, usize),
-}
+pub use refusal::{Refusal, Rule, refuse};
+pub use search::{Places, all_below, first_bad, first_bad_in};
 
 // The word at an index; 0 past the end.
 pub fn word(ws: &[i32], i: usize) -> i32
     ensures { result ≡ word_of ws.now i }
 {
-    if i < ws.len() { ws[i] } else { 0 }
+    ws.get(i).copied().unwrap_or(0)
 }
 
 // A word as a number. A word below 0 becomes a number that is no size, kind or index.
@@ -45,7 +37,7 @@ pub fn number_at(ws: &[i32], i: usize) -> usize
 }
 
 // The words from `from` on, `count` of them or as many as there are.
-pub fn part<'a>(ws: &'a [i32], from: usize, count: usize) -> &'a [i32]
+pub fn part(ws: &[i32], from: usize, count: usize) -> &[i32]
     ensures { result.now ≡ part_of ws.now from count }
 {
     if ws.len() <= from {
@@ -55,6 +47,24 @@ pub fn part<'a>(ws: &'a [i32], from: usize, count: usize) -> &'a [i32]
         return &ws[from..];
     }
     &ws[from..from + count]
+}
+
+// An array of one value; a function of its own, since a proof that meets such an array itself writes out its elements.
+pub fn filled<T: Copy, const N: usize>(x: T) -> [T; N]
+    ensures { result ≡ replicate N x }
+{
+    [x; N]
+}
+
+// The first N words. Where there are fewer, zeros stand behind them.
+#[tactic(auto, using(crate::proofs::PadLaws::padded))]
+pub fn padded<const N: usize>(ws: &[i32]) -> [i32; N]
+    ensures { result ≡ tabulate (word_of ws.now) N }
+{
+    let mut room = filled(0);
+    let n = ws.len().min(N);
+    room[..n].copy_from_slice(&ws[..n]);
+    room
 }
 
 // Does nothing: its contract is every law of the crate, so that none of them can go unproved.

@@ -1,11 +1,10 @@
--- `iterator::start::begin` meets its contract: the places before k are as they start, those from k on have no row. Assumes nothing.
-use Prim.Native.Nat.{◌-◌}
-use Rattle.iterator.specs.Arrays.{rows_in}
+-- `iterator::start::begin` meets its contract: the places before k are as they begin, and no entry is there. Assumes nothing.
+use Rattle.std.proofs.Common.{◌≡◌, false, length}
+use Rattle.iterator.specs.Arrays.{blank_state}
 use Rattle.iterator.proofs.StartLaws.{Begun}
 use Rattle.iterator.proofs.start.begin.Given as goal
 
 abbrev pub invariant-loop-k : goal.invariant-loop-k
-invariant-loop-k l = Begun l.t l.k (rows_in l.t l.rows)
-
-abbrev pub decreases-loop-k : goal.decreases-loop-k
-decreases-loop-k l = l.c - l.k
+invariant-loop-k l =
+    let rows = l.state.rows in
+    Begun l.t.words.now l.k rows.at × (length rows.at ≡ 264) × (rows.moved ≡ false) × (l.state.entries ≡ blank_state.entries)

@@ -1,12 +1,9 @@
--- `iterator::walk::first_marks` meets its contract: the first points of the tasks passed are marked. Assumes nothing.
-use Prim.Native.Nat.{◌-◌}
-use Rattle.proposer.specs.Walk.{mark_count}
-use Rattle.iterator.specs.Arrays.{marks_in}
-use Rattle.iterator.proofs.RoundLaws.{Begun}
+-- `iterator::walk::first_marks` meets its contract: the first points of the tasks before u are marked. Assumes nothing.
+use Rattle.std.proofs.Common.{◌≡◌, ℕ, List, Bool, true, set}
+use Rattle.table.specs.Layout.{first_of}
+use Rattle.proposer.specs.Fold.{fold_below}
+use Rattle.proposer.specs.Walk.{mark_at}
 use Rattle.iterator.proofs.walk.first_marks.Given as goal
 
 abbrev pub invariant-loop-u : goal.invariant-loop-u
-invariant-loop-u l = Begun l.t l.u (marks_in (mark_count l.t) l.marks)
-
-abbrev pub decreases-loop-u : goal.decreases-loop-u
-decreases-loop-u l = l.tasks - l.u
+invariant-loop-u l = l.marks ≡ fold_below (λ (m : List Bool) (u : ℕ). set m (mark_at l.t.words.now (first_of l.t.words.now u) 0) true) l.initial.marks l.u

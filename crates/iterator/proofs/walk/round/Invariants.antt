@@ -1,10 +1,8 @@
--- `iterator::walk::round` meets its contract: the places that are passed have been gone on from. Assumes nothing.
-use Prim.Native.Nat.{◌-◌}
-use Rattle.iterator.proofs.RoundLaws.{Going}
+-- `iterator::walk::round` meets its contract: what the marks before i lead to is marked. Assumes nothing.
+use Rattle.proposer.specs.Fold.{fold_below}
+use Rattle.proposer.specs.Walk.{walk_on}
+use Rattle.iterator.specs.Marks.{Marked}
 use Rattle.iterator.proofs.walk.round.Given as goal
 
 abbrev pub invariant-loop-i : goal.invariant-loop-i
-invariant-loop-i l = Going l.t l.initial.marks l.i l.marks l.new
-
-abbrev pub decreases-loop-i : goal.decreases-loop-i
-decreases-loop-i l = l.count - l.i
+invariant-loop-i l = Marked (fold_below (walk_on l.t.words.now) l.initial.marks l.i) l.initial.marks l.marks l.new

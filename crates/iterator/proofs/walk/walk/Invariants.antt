@@ -1,12 +1,8 @@
--- `iterator::walk::walk` meets its contract: after a round that makes no new mark, further rounds would make none. Assumes nothing.
-use Prim.Native.Nat.{◌-◌}
-use Rattle.proposer.specs.Walk.{mark_count}
-use Rattle.iterator.specs.Arrays.{marks_in}
-use Rattle.iterator.proofs.RoundLaws.{Rounds}
+-- `iterator::walk::walk` meets its contract: so many rounds are made. Assumes nothing.
+use Rattle.std.proofs.Common.{◌≡◌, ℕ, List, Bool}
+use Rattle.proposer.specs.Fold.{fold_below}
+use Rattle.proposer.specs.Walk.{round_of, first_marks}
 use Rattle.iterator.proofs.walk.walk.Given as goal
 
-abbrev pub invariant-loop-k : goal.invariant-loop-k
-invariant-loop-k l = Rounds l.t l.k (marks_in (mark_count l.t) l.marks)
-
-abbrev pub decreases-loop-k : goal.decreases-loop-k
-decreases-loop-k l = l.count - l.k
+abbrev pub invariant-loop : goal.invariant-loop
+invariant-loop l = l.marks ≡ fold_below (λ (m : List Bool) (_ : ℕ). round_of l.t.words.now m) (first_marks l.t.words.now) l.counter

@@ -1,28 +1,23 @@
--- `rules::disturb::first_disturbed` meets its contract: each point before p passes refusal 15, as does one whose row holds the hull of the other tasks' entries; each entry before
--- i leaves p alone; and both loops are left by the label at the first pair that fails. Assumes nothing.
-use Prim.Native.Nat.{◌-◌}
+-- `rules::disturb::first_disturbed` meets its contract: each point before p passes refusal 15, as does one whose row holds the hull of the other tasks'
+-- entries; each entry before i leaves p alone; and both loops are left by the label at the first pair that fails. Assumes nothing.
 use mathlib.Core.Path.{◌≡◌}
-use lib.ListN.{length}
-use Rattle.words.specs.declared.Found.TheVariants.{Nothing}
+use Rattle.std.specs.Prelude.{None}
 use Rattle.words.proofs.FirstLaws.{Checked}
-use Rattle.analysis.specs.Rows.{row_of}
-use Rattle.analysis.specs.Arrays.{row_in}
+use Rattle.words.proofs.PlaceLaws.{Sought}
+use Rattle.analysis.specs.Rows.{seen}
+use Rattle.rules.specs.Proposal.{entries_of}
 use Rattle.rules.specs.Rules.{rule15}
 use Rattle.rules.specs.Ready.{Around}
 use Rattle.rules.proofs.DisturbLaws.{leaves}
-use Rattle.rules.proofs.PlaceLaws.{Sought}
 use Rattle.rules.proofs.disturb.first_disturbed.Given as goal
 
 abbrev pub invariant-loop-i : goal.invariant-loop-i
 invariant-loop-i l =
-    (l.found ≡ Nothing) × Checked (leaves l.t l.w l.u l.s (row_of l.lows l.highs)) l.count l.i
-
-abbrev pub decreases-loop-i : goal.decreases-loop-i
-decreases-loop-i l = l.count - l.i
+    let p = l.all.proposal in
+    (l.found ≡ None) × Checked (leaves p.table.words.now p.words.now l.u l.s (seen l.row)) (entries_of p.words.now) l.i
 
 abbrev pub invariant-pairs : goal.invariant-pairs
 invariant-pairs l =
-    (l.found ≡ Nothing) × Sought (rule15 l.t l.w) l.initial.p l.p-end l.p × Around l.all l.from l.to l.u (row_in l.around) (length l.from)
-
-abbrev pub decreases-pairs : goal.decreases-pairs
-decreases-pairs l = l.p-end - l.p
+    let t = l.all.proposal.table.words.now in
+    let w = l.all.proposal.words.now in
+    (l.found ≡ None) × Sought (rule15 t w) l.initial.p l.p-end l.p × Around t w l.u l.around (entries_of w)

@@ -6,7 +6,9 @@ use Rattle.rules.proofs.HalvingLaws.{Halved}
 use Rattle.rules.proofs.entry.find.Given as goal
 
 abbrev pub invariant-loop-low : goal.invariant-loop-low
-invariant-loop-low l = Halved (λ i. before_of l.t l.w i l.u l.s l.v) (entries_of l.w) l.low l.high
+invariant-loop-low l =
+    let p = l.all.proposal in
+    Halved (λ i. before_of p.table.words.now p.words.now i l.u l.s l.v) (entries_of p.words.now) l.low l.high
 
 abbrev pub decreases-loop-low : goal.decreases-loop-low
 decreases-loop-low l = l.high - l.low

@@ -12,6 +12,6 @@ pub returns-then-has : goal.returns-then-has
 returns-then-has c =
     rw (holds c.has.ensures c.if-has.true, shl_is _ (le_of_lt c.requires))
 
-pub returns : goal.returns
-returns c =
+pub returns-else-has : goal.returns-else-has
+returns-else-has c =
     rw (fails c.has.ensures c.if-has.false)

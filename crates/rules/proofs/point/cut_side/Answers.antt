@@ -1,41 +1,26 @@
--- `rules::point::cut_side` meets its contract: both cuts decide whether there is an outcome, and its row and held word are tested.
--- Assumes nothing.
-use native.Mathlib.Omega.{arith}
-use Rattle.words.proofs.Signed.{read_back}
+-- `rules::point::cut_side` meets its contract: both cuts decide whether there is an outcome, and its row and held word are tested. Assumes nothing.
+use mathlib.Core.Path.{◌∙◌}
+use Rattle.analysis.specs.Rows.{seen}
 use Rattle.rules.proofs.OrderedLaws.{taken-in-order, last-ordered}
-use Rattle.rules.proofs.PartsLaws.{row-ordered}
 use Rattle.rules.proofs.PointLaws as laws
 use Rattle.rules.proofs.point.cut_side.Goals as goal
 
 pub returns-in_default : goal.returns-in_default
-returns-in_default c = laws.first-none _ _ _ _ _ _ _ _ _ c.in_default.is c.no_outcome.ensures
+returns-in_default c = c.no_outcome.ensures ∙ laws.first-none _ _ _ _ _ _ (seen c.args.at.now.row) c.args.u c.in_default.is
 
 pub returns-in_default-last : goal.returns-in_default-last
 returns-in_default-last c =
-    laws.last_none _ _ _ _ _ _ _ _ _ c.requires.v_bound c.in-Between.is c.met_if-last.ensures c.in_default-last.is c.no_outcome-in_default-last.ensures
+    c.no_outcome-in_default-last.ensures
+    ∙ laws.last_none _ _ _ _ _ _ (seen c.args.at.now.row) c.args.u c.requires.v_bound c.in-Some.is c.met_if-last.ensures c.in_default-last.is
+
+-- the ends of both cuts are in order
+pub written_within-requires-clause-in_order : goal.written_within-requires-clause-in_order
+written_within-requires-clause-in_order c =
+    let taken = c.requires.left_value in
+    (taken-in-order _ taken.0 c.in-Some.is, last-ordered _ _ _ taken.1 c.met_if-last.ensures c.in-Some-last.is)
 
 pub returns : goal.returns
 returns c =
-    let low = read_back {z = c.in-Between.low} c.in-Between.known_told-1-own.given.0.1 in
-    let high = read_back {z = c.in-Between.high} c.in-Between.known_told-1-own.given.1.0.1 in
-    let low₂ = read_back {z = c.in-Between-last.last_low} c.in-Between-last.known_told-in-Between-last-1-own.given.0.1 in
-    let high₂ = read_back {z = c.in-Between-last.last_high} c.in-Between-last.known_told-in-Between-last-1-own.given.1.0.1 in
-    laws.both_left _ _ _ _ _ _ _ _ _ c.requires.whole c.requires.v_bound c.in-Between.is c.met_if-last.ensures c.in-Between-last.is low high low₂ high₂
-    c.held.ensures.value
-    (record { variables = c.number_at.ensures.value; low = c.row_lows.ensures; high = c.row_highs.ensures })
-    c.written_within.ensures
-
--- the ends of both rows, and those of both cuts, are in order
-pub written_within-requires : goal.written_within-requires
-written_within-requires c =
-    let low = read_back {z = c.in-Between.low} c.in-Between.known_told-1-own.given.0.1 in
-    let high = read_back {z = c.in-Between.high} c.in-Between.known_told-1-own.given.1.0.1 in
-    let low₂ = read_back {z = c.in-Between-last.last_low} c.in-Between-last.known_told-in-Between-last-1-own.given.0.1 in
-    let high₂ = read_back {z = c.in-Between-last.last_high} c.in-Between-last.known_told-in-Between-last-1-own.given.1.0.1 in record {
-      ordered = rw c.number_at.ensures.value c.requires.whole.ordered;
-      high_value = (
-        rw (low, high) (taken-in-order _ c.requires.left_value.0 c.in-Between.is),
-        rw (low₂, high₂) (last-ordered _ _ _ c.requires.left_value.1 c.met_if-last.ensures c.in-Between-last.is),
-      );
-      ordered_2 = row-ordered c.requires.rows.ready _ (omega (arith, c.requires.q_bound)) c.number_at.ensures.value c.row_lows.ensures c.row_highs.ensures;
-    }
+    let at = c.args.at.now in
+    laws.both_left _ _ _ _ _ _ (seen at.row) c.args.u c.requires.v_bound c.in-Some.is c.met_if-last.ensures c.in-Some-last.is at.whole
+    at.all.now.proposal.table.cut.sizes c.held.ensures.value c.row.ensures.value c.written_within.ensures

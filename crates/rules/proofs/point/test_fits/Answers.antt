@@ -1,37 +1,30 @@
 -- `rules::point::test_fits` meets its contract: the condition under the 'not' is tested, and whether it is a comparison picks the function that does it.
 -- Assumes nothing.
-use native.Mathlib.Omega.{arith}
-use Rattle.analysis.specs.Rows.{row_of}
-use Rattle.analysis.proofs.BareLaws.{picked-most}
-use Rattle.rules.proofs.PointLaws.{test-bare, compared_at}
+use Rattle.analysis.specs.Rows.{seen}
+use Rattle.analysis.specs.Analysis.{narrow_of, cond_alarms_of}
+use Rattle.rules.proofs.PointLaws.{test-value, test-marks, compared-at}
 use Rattle.rules.proofs.point.test_fits.Goals as goal
 
 pub returns-in-Compare : goal.returns-in-Compare
+unfolding narrow_of cond_alarms_of
 returns-in-Compare c =
-    let a = c.args in
-    let bared = c.bare-under.ensures in
-    let done =
-    test-bare a.t.now a.w.now a.p a.s (row_of a.lows.now a.highs.now) a.c a.y a.n a.marks.now c.bare-under.result.node c.requires.nodes_value
-    bared c.other_if-yes.ensures c.other_if-no.ensures
-    (compared_at _ _ _ _ _ _ _ _ _ c.shape_at-shape.ensures c.in-Compare.is (c.compared_fits.ensures.value, c.compared_fits.ensures.marks_after)) in
-    record { value = done.0; marks_after = done.1 }
+    let at = c.args.at.now in
+    let nodes = at.all.now.proposal.table.cut.nodes in
+    let bare = c.bare-under.ensures in
+    let tree = compared-at _ _ c.shape_at.ensures c.in-Compare.is in
+    let tested = c.compared_fits.ensures in
+    record {
+      value = test-value _ _ _ _ _ (seen at.row) nodes bare.node_value _ at.point at.held bare.turned_value c.other_if-yes.ensures c.other_if-no.ensures (rw tree tested.value);
+      marks_after = test-marks _ _ _ _ _ (seen at.row) nodes bare.node_value _ (rw tree tested.marks_after);
+    }
 
 pub returns-in_default : goal.returns-in_default
 returns-in_default c =
-    let a = c.args in
-    let bared = c.bare-under.ensures in
-    let done =
-    test-bare a.t.now a.w.now a.p a.s (row_of a.lows.now a.highs.now) a.c a.y a.n a.marks.now c.bare-under.result.node c.requires.nodes_value
-    bared c.other_if-yes.ensures c.other_if-no.ensures
-    (c.split_fits.ensures.value, c.split_fits.ensures.marks_after) in
-    record { value = done.0; marks_after = done.1 }
-
-pub compared_fits-requires : goal.compared_fits-requires
-compared_fits-requires c =
-    let most = picked-most c.bare-under.result.turned _ _ c.other_if-yes.ensures c.other_if-no.ensures in
-    record { rows = c.requires.rows; whole = c.requires.whole; y_bound = (omega arith, omega arith) }
-
-pub split_fits-requires : goal.split_fits-requires
-split_fits-requires c =
-    let most = picked-most c.bare-under.result.turned _ _ c.other_if-yes.ensures c.other_if-no.ensures in
-    record { rows = c.requires.rows; whole = c.requires.whole; y_bound = (omega arith, omega arith) }
+    let at = c.args.at.now in
+    let nodes = at.all.now.proposal.table.cut.nodes in
+    let bare = c.bare-under.ensures in
+    let tested = c.split_fits.ensures in
+    record {
+      value = test-value _ _ _ _ _ (seen at.row) nodes bare.node_value _ at.point at.held bare.turned_value c.other_if-yes.ensures c.other_if-no.ensures tested.value;
+      marks_after = test-marks _ _ _ _ _ (seen at.row) nodes bare.node_value _ tested.marks_after;
+    }

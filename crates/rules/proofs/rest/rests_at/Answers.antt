@@ -1,20 +1,9 @@
--- `rules::rest::rests_at` meets its contract: the set has the mutex, or the interval is tested. Assumes nothing.
-use mathlib.Core.Path.{◌∙◌}
-use Rattle.words.proofs.Bools.{holds, fails}
-use Rattle.words.proofs.Signed.{read_back}
+-- `rules::rest::rests_at` meets its contract: both ends in the rest row are read where they lie. Assumes nothing.
+use Rattle.rules.proofs.RestLaws.{rest_low_there, rest_high_there}
 use Rattle.rules.proofs.rest.rests_at.Goals as goal
 
-pub returns : goal.returns
-returns c =
-    let fits = c.ranges in
-    rw (fails c.has.ensures c.if-has.false)
-    (rw (
-      read_back c.word_at-2.type_inv ∙ c.word_at-2.ensures,
-      read_back c.word_at.type_inv ∙ c.word_at.ensures,
-      read_back fits.a.sfits,
-      read_back fits.b.sfits,
-    ) at c.is_inside.ensures)
+pub word_at-requires : goal.word_at-requires
+word_at-requires c = rest_low_there c.args.all.now _ _ c.requires.0 c.requires.1
 
-pub returns-then-has : goal.returns-then-has
-returns-then-has c =
-    rw (holds c.has.ensures c.if-has.true)
+pub word_at-requires-2 : goal.word_at-requires-2
+word_at-requires-2 c = rest_high_there c.args.all.now _ _ c.requires.0 c.requires.1

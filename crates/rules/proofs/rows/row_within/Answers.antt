@@ -1,68 +1,12 @@
--- `rules::rows::row_within` meets its contract: the loop is left at the first interval that isn't within the other row's, or past the last.
--- Assumes nothing.
-use mathlib.Core.Path.{◌≡◌, sym, ◌∙◌}
+-- `rules::rows::row_within` meets its contract: the ends are compared as the intervals are. Assumes nothing.
 use borrow.Author.Rules.{rules}
-use Rattle.words.proofs.Bools.{fails, holds}
-use Rattle.words.proofs.FirstLaws.{check, checks, checked}
-use Rattle.words.proofs.Signed.{read_back}
-use Rattle.analysis.specs.Rows.{row_of}
+use Rattle.analysis.specs.Rows.{seen}
 use Rattle.rules.specs.Outcomes.{row_within_of}
-use Rattle.rules.proofs.RowLaws.{Lies, lies-is, fails-in}
+use Rattle.rules.proofs.RowLaws.{Lies, lies-is}
 use Rattle.rules.proofs.rows.row_within.Goals as goal
-
-pub returns-then-not-is_inside : goal.returns-then-not-is_inside
-unfolding row_within_of
-returns-then-not-is_inside c =
-    let tested : let a = c.args in c.is_inside.result ≡ Lies (row_of a.a_lows.now a.a_highs.now) (row_of a.b_lows.now a.b_highs.now) c.loop-v.v =
-    lies-is c.requires.ordered c.requires.ordered_2 c.loop-v-test.true (read_back c.word_at-low.type_inv ∙ c.word_at-low.ensures)
-    (read_back c.word_at-high.type_inv ∙ c.word_at-high.ensures) (read_back c.word_at.type_inv ∙ c.word_at.ensures)
-    (read_back c.word_at-in-loop-v.type_inv ∙ c.word_at-in-loop-v.ensures) c.is_inside.ensures in
-    fails-in c.loop-v.invariant c.loop-v-test.true (fails tested c.if-not-is_inside.true)
-
-pub loop-v-preserved : goal.loop-v-preserved
-loop-v-preserved c =
-    let tested : let a = c.args in c.is_inside.result ≡ Lies (row_of a.a_lows.now a.a_highs.now) (row_of a.b_lows.now a.b_highs.now) c.loop-v.v =
-    lies-is c.requires.ordered c.requires.ordered_2 c.loop-v-test.true (read_back c.word_at-low.type_inv ∙ c.word_at-low.ensures)
-    (read_back c.word_at-high.type_inv ∙ c.word_at-high.ensures) (read_back c.word_at.type_inv ∙ c.word_at.ensures)
-    (read_back c.word_at-in-loop-v.type_inv ∙ c.word_at-in-loop-v.ensures) c.is_inside.ensures in
-    checks c.loop-v.invariant c.loop-v-test.true (holds tested c.if-not-is_inside.false)
-
-pub loop-v-init : goal.loop-v-init
-unfolding row_within_of
-loop-v-init c =
-    check
-
-pub word_at-low-requires : goal.word_at-low-requires
-unfolding row_within_of
-word_at-low-requires c =
-    search rules
-
-pub word_at-high-requires : goal.word_at-high-requires
-unfolding row_within_of
-word_at-high-requires c =
-    search rules
-
-pub word_at-requires : goal.word_at-requires
-unfolding row_within_of
-word_at-requires c =
-    search rules
-
-pub word_at-requires-in-loop-v : goal.word_at-requires-in-loop-v
-unfolding row_within_of
-word_at-requires-in-loop-v c =
-    search rules
-
-pub is_inside-requires : goal.is_inside-requires
-unfolding row_within_of
-is_inside-requires c =
-    search rules
-
-pub loop-v-smaller : goal.loop-v-smaller
-unfolding row_within_of
-loop-v-smaller c =
-    search rules
 
 pub returns : goal.returns
 unfolding row_within_of
 returns c =
-    sym (checked c.loop-v.invariant c.loop-v-test.false)
+    let a = c.args in
+    c.all_below.ensures (Lies (seen a.a.now) (seen a.b.now)) (λ v r below p. lies-is c.requires.ordered below (seen a.b.now) (search rules))

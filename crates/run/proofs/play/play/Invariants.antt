@@ -1,5 +1,4 @@
--- `run::play::play` meets its contract: the table is kept in the program, the state and the position stand after some steps of the schedule, and each
--- step uses a word.
+-- `run::play::play` meets its contract: the state and the position stand after some steps of the schedule, and each step uses a word.
 -- Assumes nothing.
 use Prim.Native.Nat.{◌-◌}
 use lib.ListN.{length}
@@ -7,7 +6,7 @@ use Rattle.run.proofs.RunLaws.{Reached}
 use Rattle.run.proofs.play.play.Given as goal
 
 abbrev pub invariant-loop-at : goal.invariant-loop-at
-invariant-loop-at l = Reached l.table l.schedule l.s l.at
+invariant-loop-at l = Reached l.fn.table.words.now l.schedule l.state l.at
 
 abbrev pub decreases-loop-at : goal.decreases-loop-at
 decreases-loop-at l = length l.schedule - l.at

@@ -8,10 +8,10 @@ use Rattle.words.proofs.FillLaws.{fill, fills, filled, kept}
 use Rattle.words.proofs.bytes.decode.Goals as goal
 
 pub loop-k-init : goal.loop-k-init
-loop-k-init c = fill (omega (arith, c.fewer-whole.ensures))
+loop-k-init c = fill (omega (arith, c.min-k-end.ensures))
 
 pub unsigned-requires : goal.unsigned-requires
-unsigned-requires c = omega (arith, c.fewer-whole.ensures)
+unsigned-requires c = omega (arith, c.min-k-end.ensures)
 
 pub bounds-room-k : goal.bounds-room-k
 bounds-room-k c =
@@ -28,9 +28,9 @@ shape_of-room c = kept c.loop-k.invariant
 
 pub returns : goal.returns
 returns c =
-    let whole = c.fewer-whole.ensures in
+    let whole = c.min-k-end.ensures in
     rw whole at (filled c.loop-k.invariant c.loop-k-test.false)
 
 pub overflow_mul-k : goal.overflow_mul-k
 overflow_mul-k c =
-    omega (arith, c.fewer-whole.ensures)
+    omega (arith, c.min-k-end.ensures)

@@ -5,7 +5,7 @@ use Rattle.words.proofs.FillLaws.{Filled}
 use Rattle.words.proofs.bytes.decode.Given as goal
 
 abbrev pub invariant-loop-k : goal.invariant-loop-k
-invariant-loop-k l = Filled (word_in l.bytes) l.initial.room l.whole l.k l.room
+invariant-loop-k l = Filled (word_in l.bytes) l.initial.room l.k-end l.k l.room
 
 abbrev pub decreases-loop-k : goal.decreases-loop-k
-decreases-loop-k l = l.whole - l.k
+decreases-loop-k l = l.k-end - l.k

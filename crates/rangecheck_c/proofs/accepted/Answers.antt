@@ -1,8 +1,0 @@
--- `rangecheck_c::accepted` meets its contract. Assumes nothing.
-use mathlib.Core.Path.{refl}
-use Rattle.words.specs.Stages.{numbers_by}
-use Rattle.rangecheck_c.proofs.accepted.Goals as goal
-
-pub returns : goal.returns
-unfolding numbers_by
-returns c = refl
