@@ -98,3 +98,13 @@ pub written_is :
 unfolding then_row put_of join_rows_of left_of
 written_is r s l h v w a b c d f g t p q x-is y-is t-is p-is q-is =
     rw (there g q _ (rw y-is at q-is), there f p _ (rw x-is at p-is), ap left_of t-is) (sym (join_written r s l h v w a b c d))
+
+-- the same of two intervals that are set, as `Row::widen_cut` sets them
+pub widened_is :
+    (r s : Row) → length r.lows ≡ length s.lows → length r.highs ≡ length s.highs
+    → (v w : ℕ) (x y a b : Interval) (t p q : Row)
+    → Some a ≡ widened_at r v x.low x.high → Some b ≡ widened_at r w y.low y.high
+    → Some t ≡ join_rows_of (Some r) (Some s) → Some p ≡ put_of t v (Some a) → Some q ≡ put_of p w (Some b)
+    → Some q ≡ join_rows_of (Some r) (then_row (put_of s v (Some x)) (λ o. put_of o w (Some y)))
+unfolding maybe_by
+widened_is r s l h v w x y a b t p q a-is b-is t-is p-is q-is = written_is r s l h v w x.low x.high y.low y.high true true t p q a-is b-is t-is p-is q-is

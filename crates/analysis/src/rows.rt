@@ -1,6 +1,6 @@
 // Rows: reading one where it lies, and changing one in its place. Where a function answers false there is no row, and what stands in its place is
 // left open.
-ghost use Rattle.std.specs.Prelude.{◌≡◌, true, not, Some};
+ghost use Rattle.std.specs.Prelude.{◌≡◌, true, false, not, Some};
 ghost use Rattle.std.specs.Int.{int_min, int_max};
 ghost use Rattle.words.specs.Words.{word_of};
 ghost use Rattle.interval.specs.Interval.{span};
@@ -72,10 +72,11 @@ impl Row {
         }
     }
 
-    // The row with the interval s of v; none where s is none.
+    // The row with the interval s of v; none where s is none, and then nothing changes.
     #[tactic(auto, unfolding(crate::specs::Rows::maybe_by, crate::specs::Rows::put_of))]
     pub fn put(&mut self, v: usize, s: Option<Interval>) -> bool
-        ensures { maybe_by result self.new ≡ put_of self.old v s }
+        ensures row { maybe_by result self.new ≡ put_of self.old v s }
+        ensures unchanged { (result ≡ false) → (self.new ≡ self.old) }
     {
         if let Some(x) = s {
             self.set(v, x);
@@ -114,7 +115,6 @@ impl Row {
     }
 
     // Two rows together, in the place of the first, where the second has x at v and then y at w in place of its own.
-    #[tactic(auto, using(crate::proofs::JoinLaws::each_sets), unfolding(crate::specs::Rows::then_row, crate::specs::Rows::put_of, crate::specs::Rows::join_rows_of))]
     pub(crate) fn widen_cut(&mut self, more: &Row, v: usize, x: Interval, w: usize, y: Interval)
         ensures { Some self.new ≡ join_rows_of (Some self.old) (then_row (put_of more.now v (Some x)) (λ s. put_of s w (Some y))) }
     {

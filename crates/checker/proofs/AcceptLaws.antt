@@ -13,7 +13,7 @@ use lib.IntN.{ℤ}
 use lib.ListN.{length, take, drop}
 use lib.Seq.{take-append_seam}
 use Rattle.words.specs.First.{unless}
-use Rattle.words.specs.Stages.{refuse, and_then, number_by, buffer_by, Stage, passed, broken}
+use Rattle.words.specs.Stages.{refuse, and_then, number_by, buffer_by, Stage, passed, broken, refused_as}
 use Rattle.words.proofs.Bools.{clash}
 use Rattle.words.proofs.FirstLaws.{first_bad-none}
 use Rattle.words.proofs.StageLaws.{refuse-found, refuse-later, test-passed, and_then-first, and_then-later}
@@ -25,7 +25,7 @@ use Rattle.checker.specs.AlarmList.{raised, alarm_words}
 use Rattle.rules.specs.declared.Scope.{Scope}
 use Rattle.rules.specs.Examine.{whole_of, layout_stage, words_stage, start_stage, outcome_stage, shared_stage, ready_of, examined_of}
 use Rattle.words.specs.First.{places, first_bad_in}
-use Rattle.checker.specs.Check.{room_stage, stages_of, verdict_by, check_of, buffer_of}
+use Rattle.checker.specs.Check.{room_stage, stages_of, verdict_by, verdict_numbers, check_of, buffer_of}
 use Rattle.checker.specs.Laws.{Accepts}
 use Rattle.checker.proofs.ListLaws.{pairs-even}
 use Rattle.std.specs.Prelude.{Option, None, Some, Ok, Err}
@@ -191,6 +191,10 @@ room-short : (n room p : ℕ) (s : Bool) → leb n room ≡ s → refuse Room (u
 unfolding refuse unless
 room-short n room p true q e = let z : ◌≡◌ {A = ℕ} 0 1 = cc in absurd (omega arith)
 room-short n room p false q e = let is : p ≡ n = sym (same-broken e).1 in let short = leb-false n room q in (is, omega arith)
+
+pub room-number : (t w : List ℤ) (room place : ℕ) → check_of t w room ≡ broken Room place → verdict_numbers (check_of t w room) ≡ refused_as 17 place
+unfolding verdict_numbers number_by
+room-number t w room place e = ap verdict_numbers e
 
 pub room-needed : (t w : List ℤ) (room place : ℕ) → check_of t w room ≡ broken Room place → (place ≡ length (alarm_words t w)) × (room < place)
 unfolding layout_stage words_stage start_stage outcome_stage shared_stage ready_of examined_of room_stage stages_of check_of

@@ -12,7 +12,7 @@ use Rattle.interval.specs.declared.Computed.{Computed}
 use Rattle.interval.specs.declared.Operation.TheVariants.{Product, Quotient}
 use Rattle.words.specs.Words.{number_of}
 use Rattle.words.specs.First.{unless, or_else, first_bad, all_below, some_below}
-use Rattle.words.specs.Stages.{refuse, and_then, buffer_by, broken}
+use Rattle.words.specs.Stages.{refuse, and_then, buffer_by, broken, Numbers, number_by, refused_as}
 use Rattle.table.specs.Layout.{shares_of, starts_of, points_of, nodes_of, four_by, four_of, first_in, later_of, last_in, first_of, task_of}
 use Rattle.table.specs.Decode.{kept, shape_by, shape_from, point_by, point_from}
 use Rattle.table.specs.Tree.{arith_by, cond_by, arith_f, arith_at, cond_at}
@@ -33,14 +33,15 @@ use Rattle.rules.specs.Alarms.{alarms_by, alarms_if, alarms_at}
 use Rattle.rules.specs.Examine.{layout_stage, words_stage, start_stage, outcome_stage, shared_stage, ready_of, examined_of}
 use Rattle.words.specs.First.{first_bad_in}
 use Rattle.checker.specs.AlarmList.{raised, pair_if, pairs_at, pairs_of, alarm_words}
-use Rattle.checker.specs.Check.{room_stage, stages_of, verdict_by, check_of, buffer_of}
+use Rattle.checker.specs.Check.{room_stage, stages_of, verdict_by, verdict_numbers, check_of, buffer_of}
 use Rattle.words.specs.declared.refusal.Refusal.{Refusal}
+use Rattle.words.specs.declared.refusal.Rule.{Rule}
 use Rattle.words.specs.declared.refusal.Rule.TheVariants.{Disturb, Range, Length}
 
--- what the document tells of a check: its verdict, or its buffer afterwards; of a tree on a row: its interval and alarms, or the row that it
+-- what the document tells of a check: its verdict, also by numbers, or its buffer afterwards; of a tree on a row: its interval and alarms, or the row that it
 -- leaves; and of a single operation
 pub data Answer : Type 0 where
-  verdict : Result ℕ Refusal → Answer
+  verdict : Result ℕ Refusal → Numbers → Answer
   buffer : List ℤ → Answer
   value : Option Interval → List Alarm → Answer
   leaves : Option Row → Answer
@@ -54,6 +55,15 @@ abbrev example : Answer → Answer → Example
 example g s = record { got = g; said = s }
 
 -- ---- whole checks
+abbrev verdict_of : Result ℕ Refusal → Answer
+verdict_of r = verdict r (verdict_numbers r)
+
+abbrev accepted : ℕ → Answer
+accepted count = verdict (Ok count) (record { number = 0; place = 0; count = count })
+
+abbrev refused : Rule → ℕ → ℕ → Answer
+refused rule number place = verdict (broken rule place) (refused_as number place)
+
 -- task 0 writes 5 to the variable, task 1 ends at once
 abbrev bare : List ℤ
 bare =
@@ -115,16 +125,16 @@ gives r o z = record { range = r; overflow = o; zero = z }
 unfoldable pub table : List Example
 table =
     -- Bare: accepted, no alarm
-    example (verdict (check_of bare (proposed (pos 5) (pos 5)) 8)) (verdict (Ok 0))
+    example (verdict_of (check_of bare (proposed (pos 5) (pos 5)) 8)) (accepted 0)
     -- Bare with the third high 4: refused 15 disturb at 2
-    ∷ example (verdict (check_of bare (proposed (pos 4) (pos 5)) 8)) (verdict (broken Disturb 2))
+    ∷ example (verdict_of (check_of bare (proposed (pos 4) (pos 5)) 8)) (refused Disturb 15 2)
     -- Bare with the last high 4: 9 at 13
-    ∷ example (verdict (check_of bare (proposed (pos 5) (pos 4)) 8)) (verdict (broken Range 13))
+    ∷ example (verdict_of (check_of bare (proposed (pos 5) (pos 4)) 8)) (refused Range 9 13)
     -- the empty table: 1 at 0
-    ∷ example (verdict (check_of [] [] 8)) (verdict (broken Length 0))
+    ∷ example (verdict_of (check_of [] [] 8)) (refused Length 1 0)
     -- point 2 divides 10 by variable 0 within 0..5 into a second variable: written 2..10, zero possible; so one alarm, node 3 and kind 2
     ∷ example (value (written_of dividing 3 (row_at dividing filing 2)) (alarms_at dividing filing 2)) (value (span (pos 2) (pos 10)) (alarm_of 3 2 ∷ []))
-    ∷ example (verdict (check_of dividing filing 3)) (verdict (Ok 1))
+    ∷ example (verdict_of (check_of dividing filing 3)) (accepted 1)
     ∷ example (buffer (buffer_of dividing filing (pos 7 ∷ pos 8 ∷ pos 9 ∷ []))) (buffer (pos 3 ∷ pos 2 ∷ pos 9 ∷ []))
     -- v < v on 0..9 narrows to 1..8
     ∷ example (leaves (narrow_of (cond_at less 2) true (row (pos 0) (pos 9)))) (leaves (Some (row (pos 1) (pos 8))))
@@ -156,5 +166,5 @@ unfolding table min4_z max4_z eq_z on_ends within_of meet_of join_of hull_of bel
     all_outcomes rule8 held_in_range head_in_range rule9 before_of rule10 holds_start start_point rule11 locks_fit rows_fit rule12 rule13
     files filed writes rule14 takes disturbs undisturbed rule15 rests rest_point rest_entry rule16
     alarms_by alarms_if alarms_at first_bad_in layout_stage words_stage start_stage outcome_stage shared_stage ready_of examined_of
-    raised pair_if pairs_at pairs_of alarm_words room_stage stages_of verdict_by check_of buffer_by buffer_of
+    raised pair_if pairs_at pairs_of alarm_words room_stage stages_of verdict_by verdict_numbers number_by check_of buffer_by buffer_of
 starred = refl

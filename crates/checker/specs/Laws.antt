@@ -8,8 +8,8 @@ use Rattle.analysis.specs.Laws.{IsKind}
 use Rattle.rules.specs.Proposal.{entries_of, intervals_of, lows_from, proposal_length}
 use Rattle.rules.specs.Rules.{rule8, rule9, rule10, rule11, rule12, rule13, rule14, rule15, rule16}
 use Rattle.checker.specs.AlarmList.{raised, alarm_words}
-use Rattle.checker.specs.Check.{check_of}
-use Rattle.words.specs.Stages.{passed, broken}
+use Rattle.checker.specs.Check.{check_of, verdict_numbers}
+use Rattle.words.specs.Stages.{passed, broken, refused_as}
 use Rattle.words.specs.declared.refusal.Rule.TheVariants.{Room}
 
 -- ---- acceptance: a field for each rule
@@ -48,6 +48,7 @@ pub record Laws : Type 0 where
   pub accepts-back : (t w : List ℤ) (room count : ℕ) → Accepts t w room count → check_of t w room ≡ Ok count
   -- a 17 has the true number of words as its place, and the buffer is shorter
   pub room-needed : (t w : List ℤ) (room place : ℕ) → check_of t w room ≡ broken Room place → (place ≡ length (alarm_words t w)) × (room < place)
+  pub room-number : (t w : List ℤ) (room place : ℕ) → check_of t w room ≡ broken Room place → verdict_numbers (check_of t w room) ≡ refused_as 17 place
   -- a pair is on the list exactly when some reached point's evaluation calls it possible
   pub list-raised : (t w : List ℤ) (n k : ℕ) → n < (sizes_of t).nodes → IsKind k → on_list n k (alarm_words t w) ≡ raised t w n k
   pub list-below : (t w : List ℤ) (n k : ℕ) → on_list n k (alarm_words t w) ≡ true → (n < (sizes_of t).nodes) × IsKind k

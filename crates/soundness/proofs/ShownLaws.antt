@@ -1,7 +1,7 @@
 -- The concrete table: the check and the runs by computation, and the claim applied to it.
 -- Assumes nothing.
 use Prim.Native.Nat.{ℕ, ◌<◌}
-use mathlib.Core.Path.{◌≡◌, refl, subst, ◌∙◌}
+use mathlib.Core.Path.{◌≡◌, refl, ap, subst, ◌∙◌}
 use mathlib.Core.List.{List, []}
 use lib.Dec.{lit<}
 use lib.IntN.{ℤ, pos, negsuc}
@@ -12,7 +12,7 @@ use Rattle.interval.specs.Lattice.{within_of, meet_of}
 use Rattle.interval.specs.Arithmetic.{hull_of, below_of, above_of, either_part_of, largest_of, remainder_low_of, remainder_high_of, remainders_of, uncut_of, computed_of, operate_of}
 use Rattle.words.specs.Words.{word_of, number_of}
 use Rattle.words.specs.First.{unless, or_else, first_bad, all_below, some_below}
-use Rattle.words.specs.Stages.{refuse, and_then, broken}
+use Rattle.words.specs.Stages.{refuse, and_then, broken, number_by, refused_as}
 use Rattle.words.specs.Tabulate.{tabulate}
 use Rattle.table.specs.Layout.{sizes_of, shares_of, starts_of, points_of, nodes_of, four_by, four_of, first_in, later_of, last_in, first_of, task_of}
 use Rattle.table.specs.Decode.{kept, shape_by, shape_from, point_by, point_from}
@@ -31,7 +31,7 @@ use Rattle.rules.specs.Alarms.{alarms_by, alarms_if, alarms_at}
 use Rattle.rules.specs.Examine.{layout_stage, words_stage, start_stage, outcome_stage, shared_stage, ready_of, examined_of}
 use Rattle.words.specs.First.{first_bad_in}
 use Rattle.checker.specs.AlarmList.{raised, pair_if, pairs_at, pairs_of, alarm_words}
-use Rattle.checker.specs.Check.{room_stage, stages_of, verdict_by, check_of}
+use Rattle.checker.specs.Check.{room_stage, stages_of, verdict_by, verdict_numbers, check_of}
 use Rattle.run.specs.State.{point_in, free_of, firsts_of, values_of, start_of}
 use Rattle.run.specs.Step.{assign_by, lock_by, unlock_by, act_of, runs_of, turn_by, turn_of, step_by, step_of}
 use Rattle.run.specs.Run.{after, last_of, played_by, run_of, state_by}
@@ -48,6 +48,10 @@ checked : (check_of table proposal (length buffer) ≡ Ok 3)
     × (check_of table (proposed (pos 3)) (length buffer) ≡ broken Write 3)
 unfolding min4_z max4_z eq_z on_ends within_of meet_of hull_of below_of above_of either_part_of largest_of remainder_low_of remainder_high_of remainders_of uncut_of computed_of operate_of number_of unless or_else first_bad all_below some_below refuse and_then shares_of starts_of points_of nodes_of four_by four_of first_in later_of last_in first_of task_of kept shape_by shape_from point_by point_from arith_by arith_f arith_at node_fields_of point_fields_of fits_of ref_of refs_below count_of uses_of sizes_stage parts_stage tabulate slots_of row_if each alarm_if told_of lists value_of entries_of intervals_of heads_from lows_from proposal_length held_word_of held_of heads_of head_of lows_of highs_of row_at entries_at entry_low entry_high row_within_of meet_rows_of assigned written_of outcome_if only_if outcomes_with outcomes_by outcomes_of all_outcomes rule8 held_in_range head_in_range rule9 before_of rule10 holds_start start_point rule11 locks_fit rows_fit rule12 rule13 files filed writes rule14 takes disturbs undisturbed rule15 rests rest_point rest_entry rule16 alarms_by alarms_if alarms_at first_bad_in layout_stage words_stage start_stage outcome_stage shared_stage ready_of examined_of raised pair_if pairs_at pairs_of alarm_words room_stage stages_of verdict_by check_of
 checked = (refl, refl, refl)
+
+unfiled-number : verdict_numbers (check_of table (proposed (pos 3)) (length buffer)) ≡ refused_as 14 3
+unfolding verdict_numbers number_by
+unfiled-number = ap verdict_numbers checked.2
 
 played : (state_by (run_of table dividing) ≡ stopped 1 7 (pos 0) (pos 0) (pos 1) (negsuc 0) (pos 6) 0 2)
     × (state_by (run_of table overflowing) ≡ stopped 5 7 (pos 1) (negsuc 0) (pos 1) (negsuc 0) (pos 7) 0 1)
@@ -93,6 +97,7 @@ shown =
       accepted = checked.0;
       listed = listed;
       unfiled = checked.2;
+      unfiled-number = unfiled-number;
       divides = played.0;
       overflows = played.1;
       remains = played.2;

@@ -4,14 +4,14 @@
 use Rattle.std.specs.Prelude.{ℕ, ◌≡◌, List, [], ◌∷◌, ℤ, pos, negsuc, length, replicate, Ok}
 use Rattle.words.specs.Words.{word_of}
 use Rattle.interval.specs.Interval.{Within, greatest}
-use Rattle.checker.specs.Check.{check_of}
+use Rattle.checker.specs.Check.{check_of, verdict_numbers}
 use Rattle.run.specs.declared.State.{State}
 use Rattle.run.specs.State.{point_in}
 use Rattle.run.specs.Run.{after, run_of, state_by}
 use Rattle.soundness.specs.Safe.{Safe}
 use Rattle.soundness.specs.Claim.{list_of}
 use Rattle.words.specs.declared.refusal.Rule.TheVariants.{Write}
-use Rattle.words.specs.Stages.{broken}
+use Rattle.words.specs.Stages.{broken, refused_as}
 
 -- Two tasks, one variable, two mutexes. Task 0 locks 0 and 1, gives 0 back first, writes the remainder of an input between -5 and 5 by one between 0
 -- and 9 while it holds 1 alone, and gives 1 back. Task 1 locks 1, writes MAX + 10 / v, and gives 1 back.
@@ -104,6 +104,7 @@ pub record Shown : Type 0 where
   pub listed : list_of table proposal buffer 3 ≡ alarms
   -- 'with only an entry under set 3 it is refused 14': a write filed under a lock already given back
   pub unfiled : check_of table (proposed (pos 3)) (length buffer) ≡ broken Write 3
+  pub unfiled-number : verdict_numbers (check_of table (proposed (pos 3)) (length buffer)) ≡ refused_as 14 3
   -- task 1 stops at its quotient, node 6, of kind 2, and at its sum, node 7, of kind 1; task 0 stops at its remainder, node 2, of kind 2; each with its lock
   pub divides : state_by (run_of table dividing) ≡ stopped 1 7 (pos 0) (pos 0) (pos 1) (negsuc 0) (pos 6) 0 2
   pub overflows : state_by (run_of table overflowing) ≡ stopped 5 7 (pos 1) (negsuc 0) (pos 1) (negsuc 0) (pos 7) 0 1

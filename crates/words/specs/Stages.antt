@@ -66,6 +66,10 @@ unfoldable pub numbers_by : Stage → ℕ → Numbers
 numbers_by (Ok u) count = record { number = 0; place = 0; count = count }
 numbers_by (Err e) count = record { number = number_by e.rule; place = e.place; count = 0 }
 
+-- those of a refusal with this number
+abbrev pub refused_as : ℕ → ℕ → Numbers
+refused_as number place = record { number = number; place = place; count = 0 }
+
 -- those of an answer that counts nothing
 abbrev pub stage_numbers : Stage → Numbers
 stage_numbers s = numbers_by s 0
